@@ -1,0 +1,10 @@
+pub mod Flags
+pub mod Split
+pub mod Balance
+pub mod Poly
+pub mod Ring
+pub mod Order
+pub mod Sign
+pub mod Size
+pub mod Machine
+pub mod Uses

@@ -1,0 +1,72 @@
+"""Holds what the program `figures` prints to what second/rational.py says, line for line."""
+import random
+
+from second import rational
+
+SMALLEST, LARGEST, LARGEST_DEN = -2**63, 2**63 - 1, 2**64 - 1
+EDGES = [0, 1, 2, 3, 5, 99999, 100000, 100001, 200000, 184467440737095, 184467440737096, 2**32, LARGEST, 2**63, LARGEST_DEN]
+
+
+def cases(seed=18459):
+    """Numerators and denominators: every pair of edges, then random ones of every size, then values that end in a half."""
+    for n in EDGES:
+        for sign in (1, -1):
+            for d in EDGES:
+                if SMALLEST <= sign * n <= LARGEST:
+                    yield sign * n, d
+    yield SMALLEST, 2**63
+    make = random.Random(seed)
+    for _ in range(3000):
+        n = make.randrange(2 ** make.randrange(1, 64)) * make.choice((1, 1, -1))
+        d = make.randrange(2 ** make.randrange(1, 65))
+        common = make.randrange(1, 2 ** make.randrange(1, 20))
+        if n * common <= LARGEST and n * common >= SMALLEST and d * common <= LARGEST_DEN:
+            n, d = n * common, d * common
+        yield n, d
+    for _ in range(1000):
+        # an odd number of halves of a thousandth
+        yield 2 * make.randrange(2**20) + 1, 200000 * make.choice((1, 1, 3, 7)) // make.choice((1, 1, 2, 4, 5))
+
+
+def encode(num, den):
+    return (num + 2**63).to_bytes(8, 'little') + den.to_bytes(8, 'little')
+
+
+def wrong_ways(num, den):
+    """Roundings that another reader of the paper might take, by name."""
+    n, d = rational.lowest(num, den)
+    down = n * 100000 // d
+    rest = 2 * (n * 100000 - down * d) - d
+    return {'down': down, 'a half downwards': down + (rest > 0), 'a half to the even': down + (rest > 0 or rest == 0 and down % 2 == 1)}
+
+
+def compare(run):
+    """Returns how many lines agreed, what disagreed, and sentences on what was met."""
+    made = list(cases())
+    printed = run('figures', b''.join(encode(n, d) for n, d in made)).decode('ascii').split('\n')
+    wrong = []
+    if printed[-1] != '' or len(printed) != len(made) + 1:
+        return 0, ['figures printed %d lines for %d records' % (len(printed) - 1, len(made))], []
+    met = dict.fromkeys(['over zero', 'zero', 'negative', 'reduced', 'untold for size', 'a half'], 0)
+    differs = {}
+    for (n, d), got in zip(made, printed):
+        due = rational.line(n, d)
+        if got != due:
+            wrong.append('figures of %d/%d: printed %r, due %r' % (n, d, got, due))
+        low = rational.lowest(n, d)
+        t = rational.thousandths(*low)
+        met['over zero'] += d == 0
+        met['zero'] += n == 0
+        met['negative'] += n < 0
+        met['reduced'] += low != (n, d)
+        met['untold for size'] += t is None and n > 0
+        if t is not None:
+            met['a half'] += (2 * 100000 * low[0] + low[1]) % (2 * low[1]) == 0
+            for name, other in wrong_ways(n, d).items():
+                if other != t:
+                    differs.setdefault(name, '%d/%d' % (n, d))
+    wrong += ['no fraction %s was tried' % name for name, count in met.items() if count == 0]
+    wrong += ['no fraction tells %s from the rule' % name for name in ('down', 'a half downwards', 'a half to the even') if name not in differs]
+    told = ['fractions met: ' + ', '.join('%s %d' % item for item in met.items())]
+    told += ['rounding %s would differ at %s' % item for item in differs.items()]
+    return len(made), wrong, told

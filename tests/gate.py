@@ -1,0 +1,94 @@
+"""The test command: `make test`. Its last line is 'N passed, 0 failed' only where all of this held:
+the files are laid out as `rt fmt` lays them, `rt ci` ended with status 0 and its own such line, and every comparison with the second program ran and agreed."""
+import os
+import re
+import subprocess
+import sys
+import time
+
+HERE = os.path.dirname(os.path.abspath(__file__))
+ROOT = os.path.dirname(HERE)
+sys.path.insert(0, HERE)
+
+import compare_fractions  # noqa: E402
+
+COMPARISONS = [compare_fractions]
+
+
+def say(text):
+    print(text, flush=True)
+
+
+def stop(text):
+    say('NOT PASSED: ' + text)
+    sys.exit(1)
+
+
+def pinned():
+    """The toolchain that the README names."""
+    with open(os.path.join(ROOT, 'README.md'), encoding='utf-8') as file:
+        found = re.search(r'`(rattle-kit-\S+ logic \S+)`', file.read())
+    if not found:
+        stop('README.md names no toolchain')
+    return found.group(1)
+
+
+def check_toolchain():
+    found = subprocess.run(['rt', 'version'], capture_output=True, text=True, check=True).stdout.strip()
+    if found == pinned():
+        say('toolchain: ' + found)
+        return
+    say('ANOTHER TOOLCHAIN IS FOUND: %s' % found)
+    say('The README names %s. The proofs are tried all the same, and hold only if they pass here.' % pinned())
+
+
+def check_layout():
+    done = subprocess.run(['rt', 'fmt', '--check'], cwd=ROOT, capture_output=True, text=True)
+    if done.returncode != 0:
+        stop('rt fmt --check: ' + (done.stdout + done.stderr).strip())
+
+
+def prove():
+    """Runs rt ci, shows what it says, and returns how many things it passed."""
+    last = ''
+    with subprocess.Popen(['rt', 'ci'], cwd=ROOT, stdout=subprocess.PIPE, stderr=subprocess.STDOUT, text=True, errors='replace') as ci:
+        for text in ci.stdout:
+            last = text.rstrip('\n')
+            if not re.match(r'\d+ passed, \d+ failed$', last):
+                say(last)
+    passed = re.match(r'(\d+) passed, 0 failed$', last)
+    if ci.returncode != 0 or not passed:
+        stop('rt ci ended with status %d and the line %r' % (ci.returncode, last))
+    return int(passed.group(1))
+
+
+def run(program, given):
+    """What a built program prints on these bytes."""
+    done = subprocess.run([os.path.join(ROOT, 'tools', 'run'), program], input=given, capture_output=True)
+    if done.returncode != 0:
+        stop('%s ended with status %d: %s' % (program, done.returncode, done.stderr.decode('utf-8', 'replace')))
+    return done.stdout
+
+
+def main():
+    began = time.time()
+    check_toolchain()
+    check_layout()
+    passed = prove()
+    proved = time.time()
+    for comparison in COMPARISONS:
+        count, wrong, told = comparison.compare(run)
+        for text in told:
+            say(text)
+        for text in wrong[:20]:
+            say('DISAGREES: ' + text)
+        if wrong or not count:
+            stop('%d disagreements in %s' % (len(wrong), comparison.__name__))
+        say('%s: %d answers agreed with the second program' % (comparison.__name__, count))
+        passed += count
+    say('time: %d s, of which rt ci %d s' % (time.time() - began, proved - began))
+    say('%d passed, 0 failed' % passed)
+
+
+if __name__ == '__main__':
+    main()
