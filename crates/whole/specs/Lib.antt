@@ -8,3 +8,4 @@ pub mod Sign
 pub mod Size
 pub mod Machine
 pub mod Uses
+pub mod Every
