@@ -1,5 +1,5 @@
 -- Tests of every index below a number, and the first index that fails one.
-use mathlib.Core.Path.{_≡_, refl, sym, ap, _∙_, subst}
+use mathlib.Core.Path.{_≡_, refl, sym, ap, ap₂, _∙_, subst}
 use mathlib.Core.Bool.{Bool, true, false, not, cond, _&&_}
 use mathlib.Core.Logic.{⊎-elim}
 use Prim.Native.Nat.{ℕ, zero, suc, _+_, _<_, _≤_}
@@ -75,3 +75,18 @@ first-not-one {k} {p} {i} {j} a b = le-antisymm (not-more a b) (not-more b a)
 -- a search that found i found the first
 pub first-not-by : {k : ℕ} {p : ℕ → Bool} {i : ℕ} → FirstNot k p i → i ≡ first-not k p
 first-not-by {k} {p} a = first-not-one a (first-not-is k p)
+
+-- ---- a loop that counts up to n and keeps in a flag whether p held so far
+pub record Tested (p : ℕ → Bool) (n k : ℕ) (ok : Bool) : Type 0 where
+  pub reach : k ≤ n
+  pub so-far : ok ≡ every k p
+
+pub tested-none : (p : ℕ → Bool) (n : ℕ) → Tested p n 0 true
+tested-none p n = record { reach = omega arith; so-far = sym (every-none p) }
+
+-- a turn tests p once more, and keeps whether it held
+pub tested-more : {p : ℕ → Bool} {n k : ℕ} {ok t ok′ : Bool} → Tested p n k ok → k < n → t ≡ p k → ok′ ≡ (t && ok) → Tested p n (k + 1) ok′
+tested-more {p} {n} {k} {ok} {t} {ok′} a h e f = record { reach = omega arith; so-far = f ∙ ap₂ _&&_ e (a .so-far) ∙ sym (every-more k p) }
+
+pub tested-all : {p : ℕ → Bool} {n k : ℕ} {ok : Bool} → Tested p n k ok → n ≤ k → ok ≡ every n p
+tested-all {p} {n} {k} a h = a .so-far ∙ ap (λ (j : ℕ). every j p) (le-antisymm (a .reach) h)
