@@ -1,5 +1,0 @@
-// Run files: reading, writing, and every refusal.
-pub mod read;
-pub mod record;
-pub mod word;
-pub mod write;
