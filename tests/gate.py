@@ -10,9 +10,10 @@ HERE = os.path.dirname(os.path.abspath(__file__))
 ROOT = os.path.dirname(HERE)
 sys.path.insert(0, HERE)
 
+import compare_files  # noqa: E402
 import compare_fractions  # noqa: E402
 
-COMPARISONS = [compare_fractions]
+COMPARISONS = [compare_fractions, compare_files]
 
 
 def say(text):

@@ -1,4 +1,4 @@
--- `figures::from_excess` meets its contract.
+-- `trial::from_excess` meets its contract.
 use mathlib.Core.Path.{_≡_, _∙_}
 use Prim.Native.Nat.{ℕ, _-_, _<_, _≤_, _^_}
 use native.Mathlib.Omega.{arith}
@@ -7,8 +7,8 @@ use lib.IntN.{ℤ, pos, negsuc, _-ℤ_}
 use Rattle.whole.specs.Balance as B
 use Rattle.whole.specs.Balance.{int, nat, _⊟_}
 use Rattle.whole.specs.Machine.{as-i64, under-minus-one}
-use Rattle.figures.proofs.from_excess.Statement.{statement}
-use Rattle.figures.proofs.from_excess.Tie as tie
+use Rattle.trial.proofs.from_excess.Statement.{statement}
+use Rattle.trial.proofs.from_excess.Tie as tie
 
 above : (v e : ℕ) → e ≤ v → pos (v - e) ≡ pos v -ℤ pos e
 above v e h = B.eq-by (nat (v - e)) (nat v ⊟ nat e) (omega arith)

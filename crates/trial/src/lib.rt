@@ -1,0 +1,67 @@
+// What the programs that the comparison runs have in common: numbers in, numbers out.
+ghost use mathlib.Core.Path.{_≡_};
+ghost use Prim.Native.Nat.{_<_, _^_};
+ghost use lib.IntN.{pos, _-ℤ_};
+ghost use Rattle.trial.specs.Word.{four, little};
+use libc::STDIN_FILENO;
+use libc::STDOUT_FILENO;
+
+fn quad(a: u8, b: u8, c: u8, d: u8) -> u64
+    ensures value { λ r. ⌜ r ≡ four a b c d ⌝ }
+    ensures small { λ r. ⌜ r < 2 ^ 32 ⌝ }
+{
+    (a as u64) + 256 * ((b as u64) + 256 * ((c as u64) + 256 * (d as u64)))
+}
+
+// Eight bytes as a number, low byte first.
+pub fn word(b: [u8; 8]) -> u64
+    ensures { λ r. ⌜ r ≡ little b ⌝ }
+{
+    let low = quad(b[0], b[1], b[2], b[3]);
+    let high = quad(b[4], b[5], b[6], b[7]);
+    low + 4294967296 * high
+}
+
+// The number that v is more than 2 to the 63rd.
+pub fn from_excess(v: u64) -> i64
+    ensures { λ r. ⌜ r ≡ pos v -ℤ pos (2 ^ 63) ⌝ }
+{
+    if 9223372036854775808 <= v {
+        (v - 9223372036854775808) as i64
+    } else {
+        -1 - ((9223372036854775807 - v) as i64)
+    }
+}
+
+// What the next eight bytes of standard input hold.
+pub enum Next {
+    Word(u64),
+    End,
+}
+
+pub fn read_word() -> Next {
+    let mut b = [0u8; 8];
+    if io::read_full(STDIN_FILENO, &mut b) < 8 {
+        return Next::End;
+    }
+    Next::Word(word(b))
+}
+
+pub fn print_signed(z: i64) {
+    if z < 0 {
+        io::write_all(STDOUT_FILENO, b"-");
+    }
+    io::print_decimal(STDOUT_FILENO, exact::size(z));
+}
+
+pub fn print_count(n: u64) {
+    io::print_decimal(STDOUT_FILENO, n);
+}
+
+pub fn print_space() {
+    io::write_all(STDOUT_FILENO, b" ");
+}
+
+pub fn print_line_end() {
+    io::write_all(STDOUT_FILENO, b"\n");
+}

@@ -1,0 +1,88 @@
+"""Holds what the program `answers` prints of run files and of runs built by hand to what second/runfile.py says, byte for byte."""
+import make_files
+from second import runfile
+
+BEFORE = 170
+ROOM = 1840
+
+
+def word(value):
+    return value.to_bytes(8, 'little')
+
+
+def file_request(data):
+    return word(0) + word(len(data)) + data
+
+
+def run_request(run, length):
+    numbers = run.inputs() + run.readings()
+    return word(1) + word(length) + word(run.m) + word(run.n) + b''.join(word(v + 2**63) for v in numbers)
+
+
+def write_lines(run, length):
+    (number, place, written), buffer = runfile.written(run, bytes([BEFORE]) * length)
+    return ['write %d %d %d' % (number, place, written), buffer.hex()]
+
+
+def file_lines(data):
+    number, place, run = runfile.answer(data)
+    lines = ['read %d %d' % (number, place), 'run %d %d' % (run.m, run.n)]
+    lines += ['x ' + ' '.join(map(str, run.inputs())), 'y ' + ' '.join(map(str, run.readings()))]
+    return lines + (write_lines(run, ROOM) if number == 0 else [])
+
+
+def paired_by_place(data):
+    """What the old program did: the jth up reading in the file belongs with the jth down reading, whatever their own numbers say."""
+    number, place, run = runfile.answer(data)
+    if number:
+        return number, place, run
+    readings = {0: [], 1: []}
+    for _, kind, body in runfile.records(data):
+        if kind == 3:
+            readings[body[0]].append(runfile.value_of(kind, body))
+    paired = {(s, j // run.m, j % run.m): y for s in (0, 1) for j, y in enumerate(readings[s])}
+    return 0, 0, runfile.Run(run.m, run.n, run.x, paired)
+
+
+def told_apart(files, runs):
+    """For each wrong method the first file or run at which it differs; sentences, and what was not told apart."""
+    wrong, told = [], []
+    for which, data in enumerate(files):
+        right, other = runfile.answer(data), paired_by_place(data)
+        if right[2].readings() != other[2].readings():
+            told.append('a reader that pairs by place in the file differs at file %d, %s' % (which, data[:40].hex() + '..'))
+            break
+    else:
+        wrong.append('no file tells a reader that pairs by place in the file from ours')
+    for which, (run, length) in enumerate(runs):
+        before = bytes([BEFORE]) * length
+        if runfile.written(run, before)[1] != before:
+            told.append('a writer that touches nothing differs at run %d, of %d points and %d cycles' % (which, run.m, run.n))
+            break
+    else:
+        wrong.append('no run tells a writer that touches nothing from ours')
+    return wrong, told
+
+
+def compare(run):
+    files = [data for data in make_files.files() if len(data) <= 4096]
+    runs = list(make_files.hand_runs())
+    due = [file_lines(data) for data in files] + [write_lines(*made) for made in runs]
+    printed = run('answers', b''.join(map(file_request, files)) + b''.join(run_request(*made) for made in runs)).decode('ascii').split('\n')
+    wrong, met, at = [], {}, 0
+    for which, lines in enumerate(due):
+        got = printed[at:at + len(lines)]
+        at += len(lines)
+        if got != lines:
+            what = 'file %d, %s' % (which, files[which][:60].hex()) if which < len(files) else 'run %d' % (which - len(files))
+            wrong.append('answers of %s: printed %r, due %r' % (what, got[0][:80] if got else None, lines[0][:80]))
+            break
+        met.setdefault(lines[0].split()[0], {}).setdefault(int(lines[0].split()[1]), 0)
+        met[lines[0].split()[0]][int(lines[0].split()[1])] += 1
+    if not wrong and printed[at:] != ['']:
+        wrong.append('answers printed more than is due')
+    for name, numbers in (('read', range(0, 11)), ('write', (0, 3, 5, 9, 10, 14))):
+        wrong += ['no %s was answered with %d' % (name, number) for number in numbers if not met.get(name, {}).get(number)]
+    more, told = told_apart(files, runs)
+    told = ['%s met: ' % name + ', '.join('%d: %d' % item for item in sorted(met[name].items())) for name in sorted(met)] + told
+    return len(due), wrong + more, told
