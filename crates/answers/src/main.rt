@@ -3,6 +3,8 @@
 // Standard input holds requests. Each begins with a number of 8 bytes, low byte first.
 // 0 asks for a file: a length of 8 bytes, at most 4,096, and the file. The reader's answer is printed, and where it is accepted what writing the run gives.
 // 1 asks for a run built by hand: a buffer's length, at most 2,048, then m and n, 11 inputs and 220 readings, each of 8 bytes and more by 2 to the 63rd but for m and n. What writing it gives is printed.
+ghost use mathlib.Core.Path.{_≡_};
+ghost use lib.ListN.{length};
 use libc::STDIN_FILENO;
 use libc::STDOUT_FILENO;
 use run::Run;
@@ -13,8 +15,12 @@ use units::Reading;
 // More requests than this are not read: a loop has to end.
 const MOST: u32 = 1000000;
 
-// What the buffer holds before a write.
-const BEFORE: u8 = 170;
+// What a buffer holds before a write. The contract gives only the length, which lending a part of it needs.
+fn background() -> [u8; 2048]
+    ensures { λ r. ⌜ 2048 ≡ length r ⌝ }
+{
+    [170; 2048]
+}
 
 fn next_or_zero() -> u64 {
     match trial::read_word() {
@@ -67,7 +73,7 @@ fn print_run(r: Run) {
 fn print_bytes(b: &[u8]) {
     let mut i = 0;
     while i < b.len() {
-        io::print_hex(STDOUT_FILENO, b[i] as u64, 2);
+        trial::print_byte(b[i]);
         i += 1;
     }
     trial::print_line_end();
@@ -86,7 +92,7 @@ fn print_write(r: Run, b: &mut [u8]) {
 }
 
 fn print_write_into(r: Run, len: usize) {
-    let mut b = [BEFORE; 2048];
+    let mut b = background();
     if len <= 2048 {
         print_write(r, &mut b[..len]);
     }
@@ -110,7 +116,7 @@ fn answer_file(len: u64) -> bool {
     if 4096 < len {
         return false;
     }
-    let mut b = [0u8; 4096];
+    let mut b = io::buffer();
     let n = io::read_full(STDIN_FILENO, &mut b[..len as usize]);
     if n <= 4096 {
         print_answer(&b[..n]);

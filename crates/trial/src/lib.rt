@@ -58,6 +58,11 @@ pub fn print_count(n: u64) {
     io::print_decimal(STDOUT_FILENO, n);
 }
 
+// A byte as two digits.
+pub fn print_byte(b: u8) {
+    io::print_hex(STDOUT_FILENO, b as u64, 2);
+}
+
 pub fn print_space() {
     io::write_all(STDOUT_FILENO, b" ");
 }

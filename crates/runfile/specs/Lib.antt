@@ -1,0 +1,17 @@
+pub mod Accepted
+pub mod Back
+pub mod Because
+pub mod Entries
+pub mod Fate
+pub mod FirstPart
+pub mod Longest
+pub mod Matching
+pub mod PlaceLaws
+pub mod Rearrange
+pub mod RecordLaws
+pub mod Sentences
+pub mod Travel
+pub mod Trimmed
+pub mod VerdictLaws
+pub mod Witness
+pub mod WordLaws
