@@ -64,6 +64,21 @@ def told_apart(files, runs):
     return wrong, told
 
 
+def round_trip(run, due, printed):
+    """The files that the built writer wrote, read by the built reader: each gives the run that was written."""
+    wrong, requests, expected, at = [], [], [], 0
+    for lines in due:
+        got = printed[at:at + len(lines)]
+        at += len(lines)
+        if lines[0] == 'read 0 0':
+            length = int(got[4].split()[3])
+            requests.append(file_request(bytes.fromhex(got[5])[:length]))
+            expected += lines
+    if run('answers', b''.join(requests)).decode('ascii').split('\n') != expected + ['']:
+        wrong.append('a written file is not read back as the run that was written')
+    return len(requests), wrong
+
+
 def compare(run):
     files = [data for data in make_files.files() if len(data) <= 4096]
     runs = list(make_files.hand_runs())
@@ -83,6 +98,10 @@ def compare(run):
         wrong.append('answers printed more than is due')
     for name, numbers in (('read', range(0, 11)), ('write', (0, 3, 5, 9, 10, 14))):
         wrong += ['no %s was answered with %d' % (name, number) for number in numbers if not met.get(name, {}).get(number)]
+    trips = 0
+    if not wrong:
+        trips, wrong = round_trip(run, due, printed)
     more, told = told_apart(files, runs)
+    told.append('%d files of the built writer were read back as the runs that were written' % trips)
     told = ['%s met: ' % name + ', '.join('%d: %d' % item for item in sorted(met[name].items())) for name in sorted(met)] + told
-    return len(due), wrong + more, told
+    return len(due) + trips, wrong + more, told

@@ -12,8 +12,9 @@ sys.path.insert(0, HERE)
 
 import compare_files  # noqa: E402
 import compare_fractions  # noqa: E402
+import compare_lines  # noqa: E402
 
-COMPARISONS = [compare_fractions, compare_files]
+COMPARISONS = [compare_fractions, compare_files, compare_lines]
 
 
 def say(text):

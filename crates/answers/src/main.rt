@@ -22,17 +22,6 @@ fn background() -> [u8; 2048]
     [170; 2048]
 }
 
-fn next_or_zero() -> u64 {
-    match trial::read_word() {
-        Next::Word(v) => v,
-        Next::End => 0,
-    }
-}
-
-fn next_signed() -> i64 {
-    trial::from_excess(next_or_zero())
-}
-
 fn print_inputs(x: [Input; 11]) {
     let mut i = 0;
     while i < 11 {
@@ -129,7 +118,7 @@ fn next_inputs() -> [Input; 11] {
     let mut i = 0;
     while i < 11 {
         x[i] = Input {
-            count: next_signed(),
+            count: trial::next_signed(),
         };
         i += 1;
     }
@@ -141,7 +130,7 @@ fn next_readings() -> [Reading; 220] {
     let mut i = 0;
     while i < 220 {
         y[i] = Reading {
-            count: next_signed(),
+            count: trial::next_signed(),
         };
         i += 1;
     }
@@ -152,8 +141,8 @@ fn answer_run(len: u64) -> bool {
     if 2048 < len {
         return false;
     }
-    let m = next_or_zero() as usize;
-    let n = next_or_zero() as usize;
+    let m = trial::next_or_zero() as usize;
+    let n = trial::next_or_zero() as usize;
     let x = next_inputs();
     let y = next_readings();
     print_write_into(Run { m, n, x, y }, len as usize);
@@ -165,7 +154,7 @@ fn answer() -> bool {
     let Next::Word(kind) = trial::read_word() else {
         return false;
     };
-    let len = next_or_zero();
+    let len = trial::next_or_zero();
     if kind == 0 {
         return answer_file(len);
     }

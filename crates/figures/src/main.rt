@@ -20,9 +20,7 @@ fn print_percent(p: Percent) {
 
 fn print_line(num: i64, den: u64) {
     let f = exact::lowest(num, den);
-    trial::print_signed(f.num);
-    io::write_all(STDOUT_FILENO, b"/");
-    trial::print_count(f.den);
+    trial::print_fraction(f);
     trial::print_space();
     print_percent(exact::thousandths(f));
     trial::print_line_end();

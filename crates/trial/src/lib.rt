@@ -3,6 +3,7 @@ ghost use mathlib.Core.Path.{_≡_};
 ghost use Prim.Native.Nat.{_<_, _^_};
 ghost use lib.IntN.{pos, _-ℤ_};
 ghost use Rattle.trial.specs.Word.{four, little};
+use exact::Fraction;
 use libc::STDIN_FILENO;
 use libc::STDOUT_FILENO;
 
@@ -56,6 +57,24 @@ pub fn print_signed(z: i64) {
 
 pub fn print_count(n: u64) {
     io::print_decimal(STDOUT_FILENO, n);
+}
+
+pub fn print_fraction(f: Fraction) {
+    print_signed(f.num);
+    io::write_all(STDOUT_FILENO, b"/");
+    print_count(f.den);
+}
+
+// What the next eight bytes of standard input hold, and zero where there are no more.
+pub fn next_or_zero() -> u64 {
+    match read_word() {
+        Next::Word(v) => v,
+        Next::End => 0,
+    }
+}
+
+pub fn next_signed() -> i64 {
+    from_excess(next_or_zero())
 }
 
 // A byte as two digits.

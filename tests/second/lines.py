@@ -1,0 +1,76 @@
+"""Lines through points by another method than the bench's. The largest deviation, least over all offsets, is a convex function of the slope that turns only at the slopes of chords over highest values and over lowest values: it is tried at each of them."""
+from fractions import Fraction
+
+MOST_X, MOST_V, MOST_D = 30000, 103000000, 200
+
+
+class Band:
+    """m inputs x, with a lowest and a highest value at each, in units of 1/d."""
+
+    def __init__(self, m, d, x, low, high):
+        self.m, self.d, self.x, self.low, self.high = m, d, list(x), list(low), list(high)
+
+
+def admitted(band):
+    if not (3 <= band.m <= 11 and 1 <= band.d <= MOST_D):
+        return False
+    x, low, high = band.x[:band.m], band.low[:band.m], band.high[:band.m]
+    return all(abs(v) <= MOST_X for v in x) and all(abs(v) <= MOST_V for v in low + high) and all(a < b for a, b in zip(x, x[1:])) and all(a <= b for a, b in zip(low, high))
+
+
+def level(band):
+    return band.low[:band.m] == band.high[:band.m]
+
+
+def at_slope(band, slope):
+    """(width, offset) of the best line of a slope."""
+    above = [Fraction(v, band.d) - slope * x for x, v in zip(band.x[:band.m], band.high)]
+    below = [Fraction(v, band.d) - slope * x for x, v in zip(band.x[:band.m], band.low)]
+    return (max(above) - min(below)) / 2, (max(above) + min(below)) / 2
+
+
+def chords(band):
+    for values in (band.low, band.high):
+        for i in range(band.m):
+            for j in range(i):
+                yield Fraction(values[i] - values[j], band.d * (band.x[i] - band.x[j]))
+
+
+def best(band):
+    """('line', width, slope, offset), ('several', width) or ('improper',)."""
+    if not admitted(band):
+        return ('improper',)
+    tried = {slope: at_slope(band, slope) for slope in set(chords(band))}
+    width = min(w for w, _ in tried.values())
+    slopes = [slope for slope, (w, _) in tried.items() if w == width]
+    if len(slopes) > 1:
+        return 'several', width
+    return 'line', width, slopes[0], tried[slopes[0]][1]
+
+
+def terminal(band):
+    if not (admitted(band) and level(band)):
+        return ('improper',)
+    last = band.m - 1
+    slope = Fraction(band.low[last] - band.low[0], band.d * (band.x[last] - band.x[0]))
+    offset = Fraction(band.low[0], band.d) - slope * band.x[0]
+    return 'line', max(abs(Fraction(v, band.d) - slope * x - offset) for x, v in zip(band.x[:band.m], band.low)), slope, offset
+
+
+def shifted(band):
+    drawn = terminal(band)
+    if drawn[0] == 'improper':
+        return drawn
+    _, _, slope, offset = drawn
+    off = [Fraction(v, band.d) - slope * x - offset for x, v in zip(band.x[:band.m], band.low)]
+    return 'line', (max(off) - min(off)) / 2, slope, offset + (max(off) + min(off)) / 2
+
+
+def least_squares(band):
+    """A wrong method: the line of least squares through the middles, with its width."""
+    n = band.m
+    middle = [Fraction(a + b, 2 * band.d) for a, b in zip(band.low, band.high)][:n]
+    x = band.x[:n]
+    slope = (n * sum(a * b for a, b in zip(x, middle)) - sum(x) * sum(middle)) / Fraction(n * sum(a * a for a in x) - sum(x) ** 2)
+    offset = (sum(middle) - slope * sum(x)) / n
+    return slope, offset
