@@ -1,5 +1,5 @@
 -- Laws of the greatest common divisor: Euclid's step, and what follows where two numbers have none but 1.
-use mathlib.Core.Path.{_≡_, refl, sym, ap, _∙_, subst}
+use mathlib.Core.Path.{_≡_, sym, ap, _∙_, subst}
 use Prim.Native.Nat.{ℕ, zero, suc, _*_, _/_, _%_, _<_, _∣_}
 use native.Mathlib.Nat as N
 use native.Mathlib.Omega.{arith}

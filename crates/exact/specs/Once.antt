@@ -1,8 +1,8 @@
 -- Only one answer fits each public statement of this crate.
-use mathlib.Core.Path.{_≡_, refl, sym, ap, ap₂, _∙_, subst}
+use mathlib.Core.Path.{_≡_, refl, sym, ap, _∙_, subst}
 use mathlib.Core.Logic.{⊎-elim}
 use mathlib.Core.List.{_∷_, []}
-use Prim.Native.Nat.{ℕ, zero, suc, _+_, _*_, _<_, _≤_, _∣_}
+use Prim.Native.Nat.{ℕ, _*_, _<_, _≤_, _∣_}
 use native.Mathlib.Nat as N
 use native.Mathlib.Omega.{arith}
 use native.Mathlib.Decide.{decLt}
@@ -13,8 +13,8 @@ use Rattle.whole.specs.Sign.{cancel-eq, positive-nat}
 use Rattle.whole.specs.Size.{size-product}
 use Rattle.exact.specs.Divisor.{Gcd}
 use Rattle.exact.specs.Euclid.{gcd-same, coprime-divides}
-use Rattle.exact.specs.Value.{Worth, SameWorth, Lowest, Made, nought}
-use Rattle.exact.specs.Rounding.{Nearest, Told, PercentDue}
+use Rattle.exact.specs.Value.{SameWorth, Lowest, Made, nought}
+use Rattle.exact.specs.Rounding.{Nearest, PercentDue}
 use Rattle.exact.specs.declared.Fraction.{Fraction}
 use Rattle.exact.specs.declared.Percent.{Percent}
 use Rattle.exact.specs.declared.Percent.the-variants.{Thousandths, Untold}

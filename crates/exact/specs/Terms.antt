@@ -1,6 +1,6 @@
 -- Laws of lowest terms: two numbers divided by their greatest common divisor give the fraction that is made.
 use mathlib.Core.Path.{_≡_, refl, sym, ap, _∙_, subst}
-use Prim.Native.Nat.{ℕ, zero, suc, _+_, _*_, _/_, _<_, _≤_, zero-le}
+use Prim.Native.Nat.{ℕ, zero, suc, _*_, _/_, _<_, _≤_, zero-le}
 use native.Mathlib.Nat as N
 use native.Mathlib.Omega.{arith}
 use lib.IntN.{ℤ, pos, negsuc, natAbs, negℤ, _*ℤ_}
@@ -8,7 +8,7 @@ use Rattle.whole.specs.Balance as B
 use Rattle.whole.specs.Balance.{nat, opp, _⊠_}
 use Rattle.whole.specs.Size.{size-neg}
 use Rattle.exact.specs.Divisor.{Gcd}
-use Rattle.exact.specs.Euclid.{gcd-positive, gcd-zero, coprime-parts}
+use Rattle.exact.specs.Euclid.{coprime-parts}
 use Rattle.exact.specs.Value.{Worth, Lowest, Made, NoLarger, nought}
 use Rattle.exact.specs.declared.Fraction.{Fraction}
 

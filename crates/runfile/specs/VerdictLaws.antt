@@ -4,11 +4,12 @@ use mathlib.Core.Bool.{Bool, true, false, cond, _&&_}
 use Prim.Native.Nat.{ℕ, zero, suc, _<_, _≤_}
 use native.Mathlib.Omega.{arith}
 use native.Mathlib.Decide.{decLt}
-use borrow.Author.Tests.{le-ltb, ltb-false, leb-true}
+use borrow.Author.Tests.{le-ltb, ltb-false}
 use lib.Dec.{T, ltb}
-use lib.IntN.{ℤ, pos, negsuc, natAbs}
+use lib.IntN.{natAbs}
 use mir.Facts.{and-yes, yes-and}
 use Rattle.whole.specs.Flags.{yes-T, T-yes}
+use Rattle.whole.specs.Between.{between-size}
 use Rattle.whole.specs.Every.{every-holds, every-by, first-not, first-not-is}
 use Rattle.run.specs.Run.{input, reading}
 use Rattle.run.specs.Limits.{sizes, in-x, in-y, stroke-in-limits, holds, fails-at, fine, shape, verdict}
@@ -17,7 +18,6 @@ use Rattle.run.specs.declared.Run.{Run}
 use Rattle.run.specs.declared.Verdict.{Verdict}
 use Rattle.run.specs.declared.Rule.the-variants.{Limits, Rising, Calm}
 use Rattle.reader.specs.Walk.{count, in-limits}
-use Rattle.runfile.specs.PlaceLaws.{and-true}
 use Rattle.record.specs.declared.Record.{Record}
 use Rattle.record.specs.declared.Record.the-variants.{Opening, Point, Value, Close}
 
@@ -78,18 +78,10 @@ pub sizes-most : (m n : ℕ) → sizes m n ≡ true → (m ≤ 11) × (n ≤ 10)
 sizes-most m n e = let s = sizes-within (yes-T e) in (s .1, s .3)
 
 -- ---- a number within limits fits four bytes
-in-x-small : (z : ℤ) → in-x z ≡ true → natAbs z < 2147483648
-in-x-small (pos n) e = omega (arith, leb-true n 30000 e)
-in-x-small (negsuc n) e = omega (arith, leb-true n 29999 (and-true e .0))
-
-in-y-small : (z : ℤ) → in-y z ≡ true → natAbs z < 2147483648
-in-y-small (pos n) e = omega (arith, leb-true n 1000000 e)
-in-y-small (negsuc n) e = omega (arith, leb-true n 999999 (and-true e .0))
-
 pub limits-small : (x : Record) → in-limits x ≡ true → natAbs (count x) < 2147483648
 limits-small (Opening m n) e = omega arith
-limits-small (Point i x) e = in-x-small (x .count) e
-limits-small (Value s c i y) e = in-y-small (y .count) e
+limits-small (Point i x) e = omega (arith, between-size 30000 (x .count) (yes-T e))
+limits-small (Value s c i y) e = omega (arith, between-size 1000000 (y .count) (yes-T e))
 limits-small Close e = omega arith
 
 -- ---- order and scatter: no number is no fault

@@ -9,3 +9,4 @@ pub mod Size
 pub mod Machine
 pub mod Uses
 pub mod Every
+pub mod Between

@@ -1,7 +1,7 @@
 -- Worked uses: what a later proof needs over ℤ, each in a line or two. What the machine's operations ask is worked in the crate `worked`.
 use mathlib.Core.Path.{_≡_}
 use mathlib.Core.List.{_∷_, []}
-use Prim.Native.Nat.{ℕ, _+_, _*_, _≤_}
+use Prim.Native.Nat.{_≤_}
 use native.Mathlib.Omega.{arith}
 use lib.IntN.{ℤ, pos, natAbs, _+ℤ_, _-ℤ_, _*ℤ_}
 use lib.Signed.{_≤ℤ_, _<ℤ_, ≤ℤ-refl}

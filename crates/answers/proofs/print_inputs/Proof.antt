@@ -1,7 +1,5 @@
 -- `answers::print_inputs` ends, and reads within its array.
 use Prim.Native.Nat.{_-_, _≤_}
-use mathlib.Core.Path.{_≡_}
-use lib.ListN.{length}
 use borrow.Author.Needs.{needs}
 use Rattle.answers.proofs.print_inputs.Statement.{statement}
 use Rattle.answers.proofs.print_inputs.Tie as tie

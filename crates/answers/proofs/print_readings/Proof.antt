@@ -1,7 +1,5 @@
 -- `answers::print_readings` ends, and reads within its array.
 use Prim.Native.Nat.{_-_, _≤_}
-use mathlib.Core.Path.{_≡_}
-use lib.ListN.{length}
 use borrow.Author.Needs.{needs}
 use Rattle.answers.proofs.print_readings.Statement.{statement}
 use Rattle.answers.proofs.print_readings.Tie as tie

@@ -1,5 +1,5 @@
 -- `exact::divisor` meets its contract. The second number falls with each call: the remainder is below it.
-use mathlib.Core.Path.{_≡_, sym, subst}
+use mathlib.Core.Path.{sym, subst}
 use Prim.Native.Nat.{ℕ, _<_, _%_}
 use native.Mathlib.Nat.{pos-of-ne-zero, mod-lt}
 use borrow.Fn.Kinds.{In}

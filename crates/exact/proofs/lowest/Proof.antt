@@ -10,8 +10,7 @@ use Rattle.whole.specs.Machine.{stored}
 use Rattle.exact.specs.Divisor.{Gcd}
 use Rattle.exact.specs.Euclid.{gcd-positive}
 use Rattle.exact.specs.Value.{Made, NoLarger}
-use Rattle.exact.specs.Terms.{signed, through, made-through, no-larger-through, made-nought, no-larger-nought}
-use Rattle.exact.specs.declared.Fraction.{Fraction}
+use Rattle.exact.specs.Terms.{signed, made-through, no-larger-through, made-nought, no-larger-nought}
 use Rattle.exact.proofs.lowest.Statement.{statement}
 use Rattle.exact.proofs.lowest.Tie as tie
 

@@ -1,6 +1,6 @@
 -- `exact::nearest` meets its contract: v is whole·d + rest, and rest is compared with what it lacks to d.
-use Prim.Native.Nat.{ℕ, _+_, _*_, _/_, _%_, _<_, _≤_, _-_}
-use native.Mathlib.Nat.{mod-lt, div-add-mod', div-le-self, mul-le-mul-left}
+use Prim.Native.Nat.{ℕ, _+_, _/_, _%_, _<_, _≤_, _-_}
+use native.Mathlib.Nat.{mod-lt, div-add-mod', mul-le-mul-left}
 use native.Mathlib.Omega.{arith}
 use Rattle.exact.specs.Rounding.{Nearest}
 use Rattle.exact.proofs.nearest.Statement.{statement}

@@ -1,16 +1,16 @@
 -- `exact::thousandths` meets its contract: each test is one of the three things that `Told` asks.
-use mathlib.Core.Path.{_≡_, sym, ap, _∙_, subst}
+use mathlib.Core.Path.{_≡_, ap, _∙_, subst}
 use Prim.Native.Nat.{ℕ, _*_}
 use native.Mathlib.Nat.{pos-of-ne-zero}
 use native.Mathlib.Omega.{arith}
 use borrow.Author.Needs.{needs, sfits-of}
-use lib.IntN.{ℤ, natAbs}
+use lib.IntN.{natAbs}
 use lib.Signed.{clashℤ}
 use mir.Facts.{toZ-ofZ}
 use mir.Syntax.{w64}
 use mir.Val.{SFits}
 use Rattle.whole.specs.Machine.{if-negative, if-from-zero}
-use Rattle.exact.specs.Rounding.{Told, Nearest}
+use Rattle.exact.specs.Rounding.{Nearest}
 use Rattle.exact.proofs.thousandths.Statement.{statement}
 use Rattle.exact.proofs.thousandths.Tie as tie
 

@@ -1,12 +1,12 @@
 -- `exact::with_sign` meets its contract. Below zero the code goes one below -1 for each unit after the first, since m itself may be one more than an i64 holds.
-use mathlib.Core.Path.{_≡_, refl, sym, ap, _∙_, subst}
+use mathlib.Core.Path.{_≡_, refl, sym, _∙_, subst}
 use mathlib.Core.Bool.{Bool, true, false}
-use Prim.Native.Nat.{ℕ, _-_, _<_, _≤_, _^_}
+use Prim.Native.Nat.{ℕ, _-_, _<_, _^_}
 use native.Mathlib.Nat.{pos-of-ne-zero}
 use native.Mathlib.Omega.{arith}
 use borrow.Author.Needs.{needs}
 use borrow.Author.Tests.{ltb-true}
-use lib.IntN.{ℤ, pos, negsuc, negℤ, natAbs}
+use lib.IntN.{ℤ, pos, negsuc, negℤ}
 use lib.Signed.{ltZ}
 use mir.Syntax.{w64}
 use mir.Val.{SFits}

@@ -3,7 +3,7 @@ use mathlib.Core.Path.{_≡_, _∙_}
 use Prim.Native.Nat.{ℕ, _-_, _<_, _≤_, _^_}
 use native.Mathlib.Omega.{arith}
 use borrow.Author.Needs.{needs}
-use lib.IntN.{ℤ, pos, negsuc, _-ℤ_}
+use lib.IntN.{pos, negsuc, _-ℤ_}
 use Rattle.whole.specs.Balance as B
 use Rattle.whole.specs.Balance.{int, nat, _⊟_}
 use Rattle.whole.specs.Machine.{as-i64, under-minus-one}

@@ -2,7 +2,7 @@
 use mathlib.Core.List.{List, _∷_, []}
 use Prim.Native.Nat.{ℕ}
 use lib.IntN.{ℤ}
-use Rattle.whole.specs.Poly.{E, var, _⊕_, _⊖_, _⊗_}
+use Rattle.whole.specs.Poly.{var, _⊕_, _⊖_, _⊗_}
 use Rattle.whole.specs.Machine.{safe, ends}
 use Rattle.worked.proofs.above_line.Statement.{statement}
 use Rattle.worked.proofs.above_line.Tie as tie

@@ -2,7 +2,7 @@
 use mathlib.Core.List.{List, _∷_, []}
 use Prim.Native.Nat.{ℕ}
 use lib.IntN.{ℤ}
-use Rattle.whole.specs.Poly.{E, var, _⊖_}
+use Rattle.whole.specs.Poly.{var, _⊖_}
 use Rattle.whole.specs.Sign.{le-sign}
 use Rattle.whole.specs.Machine.{safe, to-u64, as-u64}
 use Rattle.worked.proofs.gap.Statement.{statement}

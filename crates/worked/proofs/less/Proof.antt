@@ -4,7 +4,7 @@ use mathlib.Core.Path.{sym}
 use Prim.Native.Nat.{ℕ}
 use lib.IntN.{ℤ}
 use Rattle.whole.specs.Flags.{apart}
-use Rattle.whole.specs.Poly.{E, var, _⊗_}
+use Rattle.whole.specs.Poly.{var, _⊗_}
 use Rattle.whole.specs.Machine.{safe, if-lt, if-ge}
 use Rattle.worked.proofs.less.Statement.{statement}
 use Rattle.worked.proofs.less.Tie as tie

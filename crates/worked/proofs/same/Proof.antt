@@ -3,7 +3,7 @@ use mathlib.Core.List.{List, _∷_, []}
 use mathlib.Core.Path.{sym}
 use Prim.Native.Nat.{ℕ}
 use Rattle.whole.specs.Flags.{apart}
-use Rattle.whole.specs.Poly.{E, var}
+use Rattle.whole.specs.Poly.{var}
 use Rattle.whole.specs.Machine.{if-eq, if-ne}
 use Rattle.worked.proofs.same.Statement.{statement}
 use Rattle.worked.proofs.same.Tie as tie
