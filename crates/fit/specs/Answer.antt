@@ -1,52 +1,15 @@
--- What a function of this crate answers: the points that a band stands for, the bands that are admitted, and which answer is due. Definitions only.
-use mathlib.Core.Path.{_≡_}
-use Prim.Native.Nat.{ℕ, _<_, _≤_}
-use lib.IntN.{ℤ, pos, natAbs}
+-- What a function of this crate answers: which line, or which width, is due for a band. Definitions only.
+use Prim.Native.Nat.{_<_, _≤_}
+use lib.IntN.{pos, natAbs}
 use lib.Signed.{_≤ℤ_}
-use lib.ListN.{getD}
-use Rattle.units.specs.declared.Input.{Input}
-use Rattle.units.specs.declared.Sum.{Sum}
 use Rattle.exact.specs.Value.{Made}
-use Rattle.fit.specs.Line.{Line, Points, Proper, Within, Largest, All, Parallel, Least, Single, Several, Terminal}
-use Rattle.fit.specs.declared.band.Band.{Band}
+use Rattle.band.specs.Line.{Line, Points, Within, Largest, All, Parallel, Least, Single, Several, Terminal}
+use Rattle.band.specs.Band.{points, Admitted, Level}
+use Rattle.band.specs.declared.Band.{Band}
 use Rattle.fit.specs.declared.Fit.{Fit}
 use Rattle.fit.specs.declared.Wide.{Wide}
 use Rattle.fit.specs.declared.Drawn.{Drawn}
 use Rattle.fit.specs.declared.Drawn.the-variants as drawn
-
-abbrev pub no-input : Input
-no-input = record { count = pos 0 }
-
-abbrev pub no-sum : Sum
-no-sum = record { count = pos 0 }
-
--- the points of a band
-abbrev pub points : Band → Points
-points g = record { m = g .m; d = g .d; x = λ i. getD (g .x) i no-input .count; low = λ i. getD (g .low) i no-sum .count; high = λ i. getD (g .high) i no-sum .count }
-
--- largest sizes: of an input, of a value (also where values count tenths), and of the unit
-abbrev pub most-x : ℕ
-most-x = 30000
-
-abbrev pub most-v : ℕ
-most-v = 103000000
-
-abbrev pub most-d : ℕ
-most-d = 200
-
--- 3 to 11 inputs that rise, no lowest value above a highest, nothing beyond the largest sizes
-pub record Admitted (g : Band) : Type 0 where
-  pub proper : Proper (points g)
-  pub three : 3 ≤ g .m
-  pub eleven : g .m ≤ 11
-  pub unit : g .d ≤ most-d
-  pub inputs : (i : ℕ) → i < g .m → natAbs (points g .x i) ≤ most-x
-  pub lows : (i : ℕ) → i < g .m → natAbs (points g .low i) ≤ most-v
-  pub highs : (i : ℕ) → i < g .m → natAbs (points g .high i) ≤ most-v
-
--- one value at each input
-abbrev pub Level : Band → Type 0
-Level g = (i : ℕ) → i < g .m → points g .low i ≡ points g .high i
 
 abbrev pub line-of : (f : Fit) → 0 < f .q → Line
 line-of f some = record { a = f .a; b = f .b; q = f .q; some = some }

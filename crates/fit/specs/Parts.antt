@@ -1,10 +1,15 @@
 -- The whole numbers that a line is made of. Method.
 use mathlib.Core.Path.{_≡_}
-use Prim.Native.Nat.{ℕ, _<_, _≤_}
-use lib.IntN.{ℤ, pos, natAbs}
+use Prim.Native.Nat.{ℕ, _*_, _<_, _≤_}
+use lib.IntN.{ℤ, pos, natAbs, _+ℤ_, _-ℤ_, _*ℤ_}
 use lib.Signed.{_≤ℤ_, _<ℤ_}
+use Rattle.exact.specs.Value.{Made}
+use Rattle.band.specs.Line.{Points}
+use Rattle.band.specs.Band.{Admitted}
 use Rattle.fit.specs.Answer.{Told}
+use Rattle.band.specs.declared.Band.{Band}
 use Rattle.fit.specs.declared.Fit.{Fit}
+use Rattle.fit.specs.declared.Wide.{Wide}
 
 -- numbers that a line may be told with
 pub record Whole (a b q w : ℤ) : Type 0 where
@@ -22,3 +27,29 @@ pub record FitParts (a b q w : ℤ) (f : Fit) : Type 0 where
   pub b-is : f .b ≡ b
   pub q-is : pos (f .q) ≡ q
   pub w-is : f .w ≡ w
+
+-- a line over the inputs x and z, in units of 1/d, with the width w
+pub record Over (x z w : ℤ) (d : ℕ) : Type 0 where
+  pub rise : x <ℤ z
+  pub sign : pos 0 ≤ℤ w
+  pub unit : 0 < d
+
+-- two inputs of an admitted band, and a width
+pub record Chosen (g : Band) (i k : ℕ) (n : ℤ) : Type 0 where
+  pub admitted : Admitted g
+  pub order : i < k
+  pub fits : k < g .m
+  pub size : natAbs n ≤ 18540000000000
+  pub sign : pos 0 ≤ℤ n
+
+-- f is told with the numbers of the line through the middles at i and j
+abbrev pub PairParts : Points → (i j : ℕ) → Fit → Type 0
+PairParts P i j f =
+    FitParts (P .low j +ℤ P .high j -ℤ (P .low i +ℤ P .high i)) (P .x j *ℤ (P .low i +ℤ P .high i) -ℤ P .x i *ℤ (P .low j +ℤ P .high j)) (pos 2 *ℤ (P .x j -ℤ P .x i) *ℤ pos (P .d))
+    ((P .high i -ℤ P .low i) *ℤ (P .x j -ℤ P .x i)) f
+
+-- h is the width w/(2d)
+pub record WideParts (w : ℤ) (d : ℕ) (h : Wide) : Type 0 where
+  pub w-is : h .w ≡ w
+  pub q-is : h .q ≡ 2 * d
+  pub width : Made (h .w) (h .q) (h .width)

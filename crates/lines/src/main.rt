@@ -2,9 +2,9 @@
 //
 // Standard input holds bands, each of numbers of 8 bytes, low byte first: m and d, then 11 inputs, 11 lowest and 11 highest values, each of these more by 2 to the 63rd.
 // For each band three lines are printed, `terminal`, `shifted` and `best`: width, slope and offset, or `several` and the width, or `improper`.
+use band::Band;
 use fit::Drawn;
 use fit::Fit;
-use fit::band::Band;
 use libc::STDOUT_FILENO;
 use trial::Next;
 use units::Input;

@@ -1,0 +1,81 @@
+-- `band::point_fine` meets its contract: its flags are those of `point-ok`, in their order.
+use mathlib.Core.Path.{ap, ap₂, _∙_}
+use mathlib.Core.Bool.{_&&_}
+use borrow.Author.Needs.{needs}
+use lib.Signed.{leZ}
+use Rattle.units.specs.declared.Input.{Input}
+use Rattle.units.specs.declared.Sum.{Sum}
+use Rattle.band.specs.Band.{most-x, most-v}
+use Rattle.band.specs.Admit.{small}
+use Rattle.band.proofs.point_fine.Statement.{statement}
+use Rattle.band.proofs.point_fine.Tie as tie
+
+low-at-requires : tie.Need-low-at-requires
+low-at-requires c κs = search needs
+
+high-at-requires : tie.Need-high-at-requires
+high-at-requires c κs = search needs
+
+input-at-requires : tie.Need-input-at-requires
+input-at-requires c κs = search needs
+
+small-input-requires : tie.Need-small-input-requires
+small-input-requires c κs = search needs
+
+rises-requires : tie.Need-rises-requires
+rises-requires c κs = search needs
+
+both-requires : tie.Need-both-requires
+both-requires c κs = search needs
+
+small-sum-requires : tie.Need-small-sum-requires
+small-sum-requires c κs = search needs
+
+small-sum-requires-2 : tie.Need-small-sum-requires-2
+small-sum-requires-2 c κs = search needs
+
+both-requires-2 : tie.Need-both-requires-2
+both-requires-2 c κs = search needs
+
+not-above-requires : tie.Need-not-above-requires
+not-above-requires c κs = search needs
+
+both-requires-3 : tie.Need-both-requires-3
+both-requires-3 c κs = search needs
+
+both-requires-4 : tie.Need-both-requires-4
+both-requires-4 c κs = search needs
+
+returns : tie.Need-returns
+returns c =
+    let order = c .before .before in
+    let values = order .before in
+    let input = values .before .before .before in
+    let read = input .before .before in
+    let high = read .before .before in
+    let low = high .before in
+    c .both4 .ensures
+    ∙ ap₂ _&&_
+    (input .both .ensures ∙ ap₂ _&&_ (read .small-input .ensures ∙ ap (λ (v : Input). small most-x (v .count)) (read .before .input-at .ensures)) (input .before .rises .ensures))
+    (c .before .both3 .ensures
+    ∙ ap₂ _&&_
+    (values .both2 .ensures ∙ ap₂ _&&_ (values .before .before .small-sum .ensures ∙ ap (λ (v : Sum). small most-v (v .count)) (low .low-at .ensures)) (values .before .small-sum2 .ensures ∙ ap (λ (v : Sum). small most-v (v .count)) (high .high-at .ensures)))
+    (order .not-above .ensures ∙ ap₂ (λ (a b : Sum). leZ (a .count) (b .count)) (low .low-at .ensures) (high .high-at .ensures)))
+
+pub point-fine-spec : {M : Type 1} → statement M
+point-fine-spec =
+    tie.close
+    (tie.spec
+    low-at-requires
+    high-at-requires
+    input-at-requires
+    small-input-requires
+    rises-requires
+    both-requires
+    small-sum-requires
+    small-sum-requires-2
+    both-requires-2
+    not-above-requires
+    both-requires-3
+    both-requires-4
+    returns)

@@ -1,0 +1,18 @@
+-- `band::small_input` meets its contract: what lies in the struct's bits is the number itself, and the two flags are `small`.
+use mathlib.Core.Path.{_≡_, _∙_}
+use borrow.Author.Needs.{needs}
+use Rattle.whole.specs.Machine.{stored}
+use Rattle.band.proofs.small_input.Statement.{statement}
+use Rattle.band.proofs.small_input.Tie as tie
+
+both-requires : tie.Need-both-requires
+both-requires c κs = search needs
+
+returns : tie.Need-returns
+returns c =
+    let z = c .before .before .args .v .count in
+    let b : stored z ≡ z = search needs in
+    c .both .ensures ∙ simp b
+
+pub small-input-spec : {M : Type 1} → statement M
+small-input-spec = tie.close (tie.spec both-requires returns)

@@ -1,0 +1,79 @@
+-- `fit::single` meets its contract: the input that was found is the greatest candidate; where another has its gap the line through both middles is the one, and where none has, every other candidate is less.
+use mathlib.Core.Path.{_≡_, sym, subst}
+use Prim.Native.Nat.{_<_, _≤_}
+use native.Mathlib.Omega.{arith}
+use lib.IntN.{ℤ, natAbs}
+use Rattle.whole.specs.Every.{FirstNot}
+use Rattle.whole.specs.Machine.{stored}
+use Rattle.band.specs.Candidate.{one, num, Greatest}
+use Rattle.band.specs.Band.{points}
+use Rattle.fit.specs.Parts.{WideParts}
+use Rattle.fit.specs.Ends.{most-e}
+use Rattle.band.specs.Twin.{apart}
+use Rattle.band.specs.SearchSize.{num-size}
+use Rattle.band.specs.TwinLaws.{twin-other, twin-same, alone}
+use Rattle.fit.specs.BestLaws.{found-is, num-is, pair-best, greatest-twin, several-best}
+use Rattle.fit.proofs.single.Statement.{statement}
+use Rattle.fit.proofs.single.Tie as tie
+
+greatest : (s : tie.Start) → Greatest (points (s .args .g)) (one (s .args .i))
+greatest s = found-is (s .pre .0) (s .pre .1) (s .pre .2)
+
+width : (s : tie.Start) → stored (s .args .top .num) ≡ num (points (s .args .g)) (one (s .args .i))
+width s = num-is (s .pre .0) (s .pre .1) (s .pre .2)
+
+size : (s : tie.Start) → natAbs (num (points (s .args .g)) (one (s .args .i))) ≤ most-e
+size s = num-size (s .pre .0) (one (s .args .i)) (greatest s .fits)
+
+-- another input was found
+other : (c : tie.Else1) → c .before .twin .result < c .before .before .args .g .m
+other c = omega (arith, c .before .twin .ensures .reach, c .if1 .left)
+
+below : (c : tie.Else2) → c .before .before .twin .result < c .before .before .before .args .i
+below c =
+    let t = c .before .before in
+    let n : c .before .before .before .args .i ≡ t .twin .result → ⊥ = twin-other (points (t .before .args .g)) (t .before .args .i) (t .twin .ensures) (other (c .before)) in
+    omega (arith, c .if2 .left, n)
+
+twin-requires : tie.Need-twin-requires
+twin-requires c κs = (c .pre .0, greatest c .fits)
+
+only-requires : tie.Need-only-requires
+only-requires c κs = let s = c .before .before .before in (subst (λ (z : ℤ). natAbs z ≤ most-e) (sym (width s)) (size s), s .pre .0 .unit)
+
+returns : tie.Need-returns
+returns c =
+    let t = c .before .before .before in
+    let s = t .before in
+    let g = s .args .g in
+    let i = s .args .i in
+    let none : FirstNot (g .m) (apart (points g) i) (g .m) = subst (FirstNot (g .m) (apart (points g) i)) (c .before .before .if1 .taken) (t .twin .ensures) in
+    (s .pre .0, several-best (s .pre .0) i (greatest s) (alone (s .pre .0) (s .pre .1) i (s .pre .2) none) (subst (λ (z : ℤ). WideParts z (g .d) (c .only .result)) (width s) (c .only .ensures)) (size s))
+
+middles-requires : tie.Need-middles-requires
+middles-requires c κs = (c .before .before .before .pre .0, c .if2 .taken, other (c .before))
+
+middles-requires-2 : tie.Need-middles-requires-2
+middles-requires-2 c κs = let s = c .before .before .before in (s .pre .0, below c, greatest s .fits)
+
+returns-2 : tie.Need-returns-2
+returns-2 c =
+    let e = c .before in
+    let t = e .before .before in
+    let s = t .before in
+    let P = points (s .args .g) in
+    let i = s .args .i in
+    (s .pre .0, pair-best (s .pre .0 .proper) i (t .twin .result) (e .if2 .taken) (other (e .before)) (greatest s) (sym (twin-same P i (t .twin .ensures) (other (e .before)))) (c .middles .ensures))
+
+returns-3 : tie.Need-returns-3
+returns-3 c =
+    let e = c .before in
+    let t = e .before .before in
+    let s = t .before in
+    let P = points (s .args .g) in
+    let i = s .args .i in
+    let q = twin-same P i (t .twin .ensures) (other (e .before)) in
+    (s .pre .0, pair-best (s .pre .0 .proper) (t .twin .result) i (below e) (greatest s .fits) (greatest-twin q (other (e .before)) (greatest s)) q (c .middles2 .ensures))
+
+pub single-spec : {M : Type 1} → statement M
+single-spec = tie.close (tie.spec twin-requires only-requires returns middles-requires middles-requires-2 returns-2 returns-3)
