@@ -113,18 +113,6 @@ fn answer_file(len: u64) -> bool {
     true
 }
 
-fn next_inputs() -> [Input; 11] {
-    let mut x = [Input { count: 0 }; 11];
-    let mut i = 0;
-    while i < 11 {
-        x[i] = Input {
-            count: trial::next_signed(),
-        };
-        i += 1;
-    }
-    x
-}
-
 fn next_readings() -> [Reading; 220] {
     let mut y = [Reading { count: 0 }; 220];
     let mut i = 0;
@@ -143,7 +131,7 @@ fn answer_run(len: u64) -> bool {
     }
     let m = trial::next_or_zero() as usize;
     let n = trial::next_or_zero() as usize;
-    let x = next_inputs();
+    let x = trial::next_inputs();
     let y = next_readings();
     print_write_into(Run { m, n, x, y }, len as usize);
     true

@@ -7,23 +7,10 @@ use fit::Drawn;
 use fit::Fit;
 use libc::STDOUT_FILENO;
 use trial::Next;
-use units::Input;
 use units::Sum;
 
 // More bands than this are not read: a loop has to end.
 const MOST: u32 = 1000000;
-
-fn next_inputs() -> [Input; 11] {
-    let mut x = [Input { count: 0 }; 11];
-    let mut i = 0;
-    while i < 11 {
-        x[i] = Input {
-            count: trial::next_signed(),
-        };
-        i += 1;
-    }
-    x
-}
 
 fn next_sums() -> [Sum; 11] {
     let mut v = [Sum { count: 0 }; 11];
@@ -75,7 +62,7 @@ fn draw() -> bool {
         return false;
     };
     let d = trial::next_or_zero();
-    let x = next_inputs();
+    let x = trial::next_inputs();
     let low = next_sums();
     let high = next_sums();
     print_lines(Band {

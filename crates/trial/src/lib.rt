@@ -6,6 +6,7 @@ ghost use Rattle.trial.specs.Word.{four, little};
 use exact::Fraction;
 use libc::STDIN_FILENO;
 use libc::STDOUT_FILENO;
+use units::Input;
 
 fn quad(a: u8, b: u8, c: u8, d: u8) -> u64
     ensures value { λ r. ⌜ r ≡ four a b c d ⌝ }
@@ -75,6 +76,18 @@ pub fn next_or_zero() -> u64 {
 
 pub fn next_signed() -> i64 {
     from_excess(next_or_zero())
+}
+
+pub fn next_inputs() -> [Input; 11] {
+    let mut x = [Input { count: 0 }; 11];
+    let mut i = 0;
+    while i < 11 {
+        x[i] = Input {
+            count: next_signed(),
+        };
+        i += 1;
+    }
+    x
 }
 
 // A byte as two digits.

@@ -1,10 +1,10 @@
--- `lines::next_inputs` ends, and writes within its array.
+-- `trial::next_inputs` ends, and writes within its array.
 use Prim.Native.Nat.{_-_, _≤_}
 use mathlib.Core.Path.{_≡_}
 use lib.ListN.{length}
 use borrow.Author.Needs.{needs}
-use Rattle.lines.proofs.next_inputs.Statement.{statement}
-use Rattle.lines.proofs.next_inputs.Tie as tie
+use Rattle.trial.proofs.next_inputs.Statement.{statement}
+use Rattle.trial.proofs.next_inputs.Tie as tie
 
 abbrev Inv-loop : tie.InvT-loop
 Inv-loop x₀ i₀ x i = (i ≤ 11) × (length x ≡ 11)
