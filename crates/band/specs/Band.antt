@@ -1,18 +1,11 @@
 -- Bands: the points that a band stands for, and the bands that are admitted. Definitions only.
 use mathlib.Core.Path.{_≡_}
 use Prim.Native.Nat.{ℕ, _<_, _≤_}
-use lib.IntN.{pos, natAbs}
+use lib.IntN.{natAbs}
 use lib.ListN.{getD}
-use Rattle.units.specs.declared.Input.{Input}
-use Rattle.units.specs.declared.Sum.{Sum}
+pub use Rattle.units.specs.Units.{no-input, no-sum}
 use Rattle.band.specs.Line.{Points, Proper}
 use Rattle.band.specs.declared.Band.{Band}
-
-abbrev pub no-input : Input
-no-input = record { count = pos 0 }
-
-abbrev pub no-sum : Sum
-no-sum = record { count = pos 0 }
 
 -- the points of a band
 abbrev pub points : Band → Points

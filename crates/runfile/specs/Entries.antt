@@ -7,7 +7,8 @@ use native.Mathlib.Omega.{arith}
 use lib.ListN.{drop, take-append-drop}
 use lib.Seq.{drop-drop}
 use Rattle.record.specs.Record.{record-at, bytes}
-use Rattle.runfile.specs.RecordLaws.{Bytes, record-back, record-within}
+use Rattle.reader.specs.RecordLaws.{found-within}
+use Rattle.runfile.specs.RecordLaws.{Bytes, record-back}
 use Rattle.reader.specs.Walk.{again, taken, met, entries, Walked, stopped, closed}
 use Rattle.writer.specs.File.{all-bytes}
 use Rattle.runfile.specs.Fate.{Good, taken-good, Fate, stops, closes, goes, fate}
@@ -19,7 +20,7 @@ use Rattle.record.specs.declared.Found.the-variants.{Item, Cut, Unknown}
 -- a record that is found is followed by what stands behind its end
 pub split-record : (first : Bool) (s : List ℕ) (at : ℕ) {x : Record} {end : ℕ} → Bytes s → record-at first s at ≡ Item x end → drop at s ≡ bytes x ++ drop end s
 split-record first s at {x} {end} ok e =
-    let w = record-within first s at e in
+    let w = found-within first s at e in
     let k : at + (end - at) ≡ end = omega arith in
     let behind : drop (end - at) (drop at s) ≡ drop end s = drop-drop (end - at) at s ∙ ap (λ (i : ℕ). drop i s) k in
     sym (take-append-drop (end - at) (drop at s)) ∙ rw (record-back s at ok first e, behind)
