@@ -4,13 +4,13 @@ use mathlib.Core.Bool.{_&&_}
 use mathlib.Core.List.{List, _∷_, []}
 use Prim.Native.Nat.{ℕ, _<_, _≤_}
 use native.Mathlib.Omega.{arith}
-use lib.Dec.{T, leb, ltb, ltb→lt}
+use lib.Dec.{T, ltb, ltb→lt}
 use lib.IntN.{ℤ, pos, natAbs, _+ℤ_, _-ℤ_, _*ℤ_}
 use lib.ListN.{getD}
 use mir.Facts.{and-yes}
-use Rattle.whole.specs.Poly.{E, val, var, lit, _⊖_}
+use Rattle.whole.specs.Poly.{var, lit, _⊖_}
 use Rattle.whole.specs.Ring.{ring}
-use Rattle.whole.specs.Machine.{Bounds, bound, ok, ends, stays}
+use Rattle.whole.specs.Machine.{Bounds, sized}
 use Rattle.units.specs.declared.Input.{Input}
 use Rattle.units.specs.declared.Sum.{Sum}
 use Rattle.band.specs.Candidate.{one, up, down, num, den, Among, Fits, upE, downE}
@@ -44,9 +44,6 @@ pub three : {m i j k : ℕ} → (i < j) × (j < k) × (k < m) → Three m i j k
 three h = record { i< = omega (arith, h .0, h .1, h .2); j< = omega (arith, h .1, h .2); k< = h .2 }
 
 -- ---- sizes
-sized : (ρ : List ℤ) (β : List ℕ) → Bounds ρ β → (e : E) (n : ℕ) → T (ok β e) → T (leb (bound β e) n) → natAbs (val ρ e) ≤ n
-sized ρ β hs e n s t = subst (λ (z : ℤ). natAbs z ≤ n) (ends ρ β hs e s) (stays ρ β hs e n s t)
-
 -- three inputs and three values
 abbrev sizes : List ℕ
 sizes = most-x ∷ most-x ∷ most-x ∷ most-v ∷ most-v ∷ most-v ∷ []
@@ -62,22 +59,22 @@ module _ {g : Band} (a : Admitted g) where
   high-size {i} h e = subst (λ (v : Sum). natAbs (v .count) ≤ most-v) (sym e) (a .highs i h)
 
   pub num-size : (c : C.Candidate) → Fits (points g) c → natAbs (num (points g) c) ≤ 18540000000000
-  num-size (one i) h = sized (points g .high i ∷ points g .low i ∷ []) (most-v ∷ most-v ∷ []) (a .highs i h, (a .lows i h, tt)) (var 0 ⊖ var 1) 18540000000000 tt tt
+  num-size (one i) h = sized (points g .high i ∷ points g .low i ∷ []) (most-v ∷ most-v ∷ []) (a .highs i h, (a .lows i h, tt)) (var 0 ⊖ var 1) 18540000000000 tt
   num-size (up i j k) h =
       let P = points g in
       let t = three h in
       sized (P .x i ∷ P .x j ∷ P .x k ∷ P .high i ∷ P .low j ∷ P .high k ∷ []) sizes
       (a .inputs i (t .i<), (a .inputs j (t .j<), (a .inputs k (t .k<), (a .highs i (t .i<), (a .lows j (t .j<), (a .highs k (t .k<), tt))))))
-      (upE (var 0) (var 1) (var 2) (var 3) (var 4) (var 5)) 18540000000000 tt tt
+      (upE (var 0) (var 1) (var 2) (var 3) (var 4) (var 5)) 18540000000000 tt
   num-size (down i j k) h =
       let P = points g in
       let t = three h in
       sized (P .x i ∷ P .x j ∷ P .x k ∷ P .low i ∷ P .high j ∷ P .low k ∷ []) sizes
       (a .inputs i (t .i<), (a .inputs j (t .j<), (a .inputs k (t .k<), (a .lows i (t .i<), (a .highs j (t .j<), (a .lows k (t .k<), tt))))))
-      (downE (var 0) (var 1) (var 2) (var 3) (var 4) (var 5)) 18540000000000 tt tt
+      (downE (var 0) (var 1) (var 2) (var 3) (var 4) (var 5)) 18540000000000 tt
 
   span-size : (i k : ℕ) → i < g .m → k < g .m → natAbs (points g .x k -ℤ points g .x i) ≤ 60000
-  span-size i k h l = sized (points g .x i ∷ points g .x k ∷ []) (most-x ∷ most-x ∷ []) (a .inputs i h, (a .inputs k l, tt)) (var 1 ⊖ var 0) 60000 tt tt
+  span-size i k h l = sized (points g .x i ∷ points g .x k ∷ []) (most-x ∷ most-x ∷ []) (a .inputs i h, (a .inputs k l, tt)) (var 1 ⊖ var 0) 60000 tt
 
   pub den-size : (c : C.Candidate) → Fits (points g) c → natAbs (den (points g) c) ≤ 60000
   den-size (one i) h = omega arith

@@ -8,6 +8,7 @@ ghost use lib.Signed.{_≤ℤ_, _<ℤ_, ltZ, leZ};
 ghost use Rattle.whole.specs.Every.{FirstNot};
 ghost use Rattle.whole.specs.Machine.{Bounds};
 ghost use Rattle.band.specs.Band.{points, most-x, most-v, Admitted};
+ghost use Rattle.band.specs.Candidate.{up, down, num, Fits};
 ghost use Rattle.band.specs.Search.{nth, among, taken-over, Levelled, BestOf};
 ghost use Rattle.band.specs.Twin.{apart};
 use crate::Band;
@@ -110,6 +111,44 @@ fn opposite(z: i64) -> i64
     0 - z
 }
 
+// The numerator of a chord over the highest values at i and k, above the lowest at j.
+fn above(g: Band, i: usize, j: usize, k: usize) -> i64
+    requires { ⌜ Admitted g × Fits (points g) (up i j k) ⌝ }
+    ensures { λ r. ⌜ r ≡ num (points g) (up i j k) ⌝ }
+{
+    bend(
+        input_at(g, i),
+        input_at(g, j),
+        input_at(g, k),
+        high_at(g, i),
+        low_at(g, j),
+        high_at(g, k),
+    )
+}
+
+// The numerator of the highest value at j, above a chord over the lowest at i and k.
+fn beneath(g: Band, i: usize, j: usize, k: usize) -> i64
+    requires { ⌜ Admitted g × Fits (points g) (down i j k) ⌝ }
+    ensures { λ r. ⌜ r ≡ num (points g) (down i j k) ⌝ }
+{
+    opposite(bend(
+        input_at(g, i),
+        input_at(g, j),
+        input_at(g, k),
+        low_at(g, i),
+        high_at(g, j),
+        low_at(g, k),
+    ))
+}
+
+// The denominator of both.
+fn span_of(g: Band, i: usize, k: usize) -> i64
+    requires { ⌜ Admitted g × (i < k) × (k < g .m) ⌝ }
+    ensures { λ r. ⌜ r ≡ points g .x k -ℤ points g .x i ⌝ }
+{
+    span(input_at(g, i), input_at(g, k))
+}
+
 // A candidate with its fraction.
 fn levelled(g: Band, c: Candidate) -> Top
     requires { ⌜ Admitted g × T (among (g .m) c) ⌝ }
@@ -124,27 +163,13 @@ fn levelled(g: Band, c: Candidate) -> Top
         },
         Candidate::Up(i, j, k) => Top {
             which: c,
-            num: bend(
-                input_at(g, i),
-                input_at(g, j),
-                input_at(g, k),
-                high_at(g, i),
-                low_at(g, j),
-                high_at(g, k),
-            ),
-            den: span(input_at(g, i), input_at(g, k)),
+            num: above(g, i, j, k),
+            den: span_of(g, i, k),
         },
         Candidate::Down(i, j, k) => Top {
             which: c,
-            num: opposite(bend(
-                input_at(g, i),
-                input_at(g, j),
-                input_at(g, k),
-                low_at(g, i),
-                high_at(g, j),
-                low_at(g, k),
-            )),
-            den: span(input_at(g, i), input_at(g, k)),
+            num: beneath(g, i, j, k),
+            den: span_of(g, i, k),
         },
     }
 }

@@ -10,7 +10,7 @@ use lib.Signed.{_≤ℤ_}
 use Rattle.whole.specs.Poly.{var, lit, _⊕_, _⊖_, _⊗_}
 use Rattle.whole.specs.Ring.{ring}
 use Rattle.whole.specs.Sign.{Positive, le-trans, lt-sign}
-use Rattle.whole.specs.Size.{size-add, size-sub, size-mul}
+use Rattle.whole.specs.Machine.{sized}
 use Rattle.band.specs.Line.{Points}
 use Rattle.band.specs.Band.{points, most-x, most-v, Admitted}
 use Rattle.fit.specs.Greater.{smaller, greater, smaller-left, smaller-right, smaller-is, greater-left, greater-right, greater-is}
@@ -107,8 +107,8 @@ module _ {g : Band} {e : Ends} (a : Admitted g) (t : EndsOf (points g) e) where
   above-size : (p : ℕ) → p < g .m → natAbs (above (points g) e p) ≤ most-e
   above-size p h =
       let P = points g in
-      size-sub (e .s *ℤ P .low p) (e .a *ℤ P .x p +ℤ e .b) 6180000000000 12360000000000 (size-mul (e .s) (P .low p) most-s most-v (t .s-most) (a .lows p h))
-      (size-add (e .a *ℤ P .x p) (e .b) 6180000000000 most-b (size-mul (e .a) (P .x p) most-a most-x (t .a-most) (a .inputs p h)) (t .b-most))
+      sized (e .s ∷ P .low p ∷ e .a ∷ P .x p ∷ e .b ∷ []) (most-s ∷ most-v ∷ most-a ∷ most-x ∷ most-b ∷ []) (t .s-most, (a .lows p h, (t .a-most, (a .inputs p h, (t .b-most, tt)))))
+      (var 0 ⊗ var 1 ⊖ (var 2 ⊗ var 3 ⊕ var 4)) most-e tt
 
   pub ready : {r : Spread} → Ranged (points g) e (g .m) r → Ready e r (g .d)
   ready {r} R =

@@ -7,8 +7,7 @@ use lib.IntN.{ℤ, pos, natAbs, _-ℤ_, _*ℤ_}
 use lib.Signed.{_≤ℤ_}
 use Rattle.whole.specs.Poly.{var, lit, _⊖_, _⊗_}
 use Rattle.whole.specs.Sign.{positive-mul, positive-nat, le-trans}
-use Rattle.whole.specs.Size.{size-sub}
-use Rattle.whole.specs.Machine.{Bounds, safe, ends}
+use Rattle.whole.specs.Machine.{Bounds, safe, ends, sized}
 use Rattle.band.specs.Band.{most-d}
 use Rattle.fit.specs.Parts.{FitParts}
 use Rattle.fit.specs.Greater.{greater, greater-left, greater-size}
@@ -58,8 +57,7 @@ bounds : (c : tie.After-larger) → Bounds (σ c) β′
 bounds c =
     let s = start c in
     let b = s .pre .bounds in
-    let lo = s .args .r .lo in
-    let w : natAbs (wide s) ≤ most-e = greater-size (s .args .r .hi) (pos 0 -ℤ lo) most-e (b .1 .1 .1 .1 .0) (size-sub (pos 0) lo 0 most-e (search needs) (b .1 .1 .1 .0)) in
+    let w : natAbs (wide s) ≤ most-e = greater-size (s .args .r .hi) (pos 0 -ℤ s .args .r .lo) most-e (b .1 .1 .1 .1 .0) (sized (ρ s) β b (lit 0 ⊖ var 3) most-e tt) in
     (b .0, (b .1 .0, (b .1 .1 .0, (b .1 .1 .1 .1 .1 .0, (subst (λ (z : ℤ). natAbs z ≤ most-e) (sym (found c)) w, tt)))))
 
 told-requires : tie.Need-told-requires
