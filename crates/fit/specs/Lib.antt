@@ -1,5 +1,6 @@
 pub mod Answer
 pub mod BestLaws
+pub mod ChordLaws
 pub mod Due
 pub mod Ends
 pub mod EndsLaws

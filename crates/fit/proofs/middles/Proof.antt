@@ -4,7 +4,7 @@ use Prim.Native.Nat.{_<_, _≤_}
 use native.Mathlib.Omega.{arith}
 use borrow.Author.Needs.{needs, sfits-of}
 use lib.IntN.{ℤ, pos, natAbs, _+ℤ_, _-ℤ_, _*ℤ_}
-use lib.Signed.{_≤ℤ_, _<ℤ_}
+use lib.Signed.{_≤ℤ_}
 use mir.Facts.{toZ-ofZ}
 use Rattle.whole.specs.Machine.{stored}
 use Rattle.whole.specs.Sign.{le-sign}
@@ -13,6 +13,7 @@ use Rattle.units.specs.declared.Sum.{Sum}
 use Rattle.band.specs.Band.{points}
 use Rattle.fit.specs.Ends.{most-a}
 use Rattle.fit.specs.PartsLaws.{parts-is}
+use Rattle.fit.specs.ChordLaws.{inputs-rise}
 use Rattle.band.specs.SearchSize.{input-size, low-size, high-size}
 use Rattle.fit.proofs.middles.Statement.{statement}
 use Rattle.fit.proofs.middles.Tie as tie
@@ -97,7 +98,7 @@ pair-requires c κs =
         ),
       ),
       record {
-        rise = subst (λ (v : Input). v .count <ℤ m .before .input-at2 .result .count) (sym x) (subst (λ (v : Input). points (s .args .g) .x (s .args .i) <ℤ v .count) (sym z) (a .proper .rise (s .args .i) (s .args .j) (s .pre .1) (s .pre .2)));
+        rise = inputs-rise a (s .pre .1) (s .pre .2) x z;
         sign = subst (λ (t : ℤ). pos 0 ≤ℤ t) (sym (wide c)) (le-sign (a .proper .order (s .args .i) (first s)));
         unit = a .proper .unit;
       },
