@@ -44,6 +44,21 @@ def paired_by_place(data):
     return 0, 0, runfile.Run(run.m, run.n, run.x, paired)
 
 
+def down_stroke_rising(run, before):
+    """A wrong writer: the down stroke's records stand as the up stroke's do, the lowest input first."""
+    (number, _, length), buffer = runfile.written(run, before)
+    if number:
+        return buffer
+    middle = runfile.travel(run)[:run.m]
+    for c in range(run.n):
+        for s in (0, 1):
+            middle += [runfile.reading_record(s, c, i, run.y.get((s, c, i), 0)) for i in range(run.m)]
+    return runfile.framed(run.m, run.n, middle) + buffer[length:]
+
+
+WRONG_WRITERS = (('a writer that touches nothing', lambda run, before: before), ('a writer of a rising down stroke', down_stroke_rising))
+
+
 def told_apart(files, runs):
     """For each wrong method the first file or run at which it differs; sentences, and what was not told apart."""
     wrong, told = [], []
@@ -54,13 +69,14 @@ def told_apart(files, runs):
             break
     else:
         wrong.append('no file tells a reader that pairs by place in the file from ours')
-    for which, (run, length) in enumerate(runs):
-        before = bytes([BEFORE]) * length
-        if runfile.written(run, before)[1] != before:
-            told.append('a writer that touches nothing differs at run %d, of %d points and %d cycles' % (which, run.m, run.n))
-            break
-    else:
-        wrong.append('no run tells a writer that touches nothing from ours')
+    for name, writer in WRONG_WRITERS:
+        for which, (run, length) in enumerate(runs):
+            before = bytes([BEFORE]) * length
+            if runfile.written(run, before)[1] != writer(run, before):
+                told.append('%s differs at run %d, of %d points and %d cycles' % (name, which, run.m, run.n))
+                break
+        else:
+            wrong.append('no run tells %s from ours' % name)
     return wrong, told
 
 
