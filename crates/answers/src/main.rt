@@ -3,8 +3,6 @@
 // Standard input holds requests. Each begins with a number of 8 bytes, low byte first.
 // 0 asks for a file: a length of 8 bytes, at most 4,096, and the file. The reader's answer is printed, and where it is accepted what writing the run gives.
 // 1 asks for a run built by hand: a buffer's length, at most 2,048, then m and n, 11 inputs and 220 readings, each of 8 bytes and more by 2 to the 63rd but for m and n. What writing it gives is printed.
-ghost use mathlib.Core.Path.{_≡_};
-ghost use lib.ListN.{length};
 use libc::STDIN_FILENO;
 use libc::STDOUT_FILENO;
 use run::Run;
@@ -14,13 +12,6 @@ use units::Reading;
 
 // More requests than this are not read: a loop has to end.
 const MOST: u32 = 1000000;
-
-// What a buffer holds before a write. The contract gives only the length, which lending a part of it needs.
-fn background() -> [u8; 2048]
-    ensures { λ r. ⌜ 2048 ≡ length r ⌝ }
-{
-    [170; 2048]
-}
 
 fn print_inputs(x: [Input; 11]) {
     let mut i = 0;
@@ -58,16 +49,6 @@ fn print_run(r: Run) {
     print_readings(y);
 }
 
-// The buffer's bytes, two digits each.
-fn print_bytes(b: &[u8]) {
-    let mut i = 0;
-    while i < b.len() {
-        trial::print_byte(b[i]);
-        i += 1;
-    }
-    trial::print_line_end();
-}
-
 fn print_write(r: Run, b: &mut [u8]) {
     let w = writer::write(r, b);
     io::write_all(STDOUT_FILENO, b"write ");
@@ -77,11 +58,11 @@ fn print_write(r: Run, b: &mut [u8]) {
     trial::print_space();
     trial::print_count(w.len as u64);
     trial::print_line_end();
-    print_bytes(b);
+    trial::print_bytes(b);
 }
 
 fn print_write_into(r: Run, len: usize) {
-    let mut b = background();
+    let mut b = trial::background();
     if len <= 2048 {
         print_write(r, &mut b[..len]);
     }
@@ -113,18 +94,6 @@ fn answer_file(len: u64) -> bool {
     true
 }
 
-fn next_readings() -> [Reading; 220] {
-    let mut y = [Reading { count: 0 }; 220];
-    let mut i = 0;
-    while i < 220 {
-        y[i] = Reading {
-            count: trial::next_signed(),
-        };
-        i += 1;
-    }
-    y
-}
-
 fn answer_run(len: u64) -> bool {
     if 2048 < len {
         return false;
@@ -132,7 +101,7 @@ fn answer_run(len: u64) -> bool {
     let m = trial::next_or_zero() as usize;
     let n = trial::next_or_zero() as usize;
     let x = trial::next_inputs();
-    let y = next_readings();
+    let y = trial::next_readings();
     print_write_into(Run { m, n, x, y }, len as usize);
     true
 }

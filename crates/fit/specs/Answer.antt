@@ -1,5 +1,5 @@
 -- What a function of this crate answers: which line, or which width, is due for a band. Definitions only.
-use Prim.Native.Nat.{_<_, _≤_}
+use Prim.Native.Nat.{_*_, _<_, _≤_}
 use lib.IntN.{pos, natAbs}
 use lib.Signed.{_≤ℤ_}
 use Rattle.exact.specs.Value.{Made}
@@ -26,13 +26,14 @@ pub record Told (f : Fit) : Type 0 where
   pub w-most : natAbs (f .w) ≤ 40000000000000
   pub q-most : f .q ≤ 24000000
 
--- f is the one line of the family F whose largest deviation is least, with that deviation
+-- f is the one line of the family F whose largest deviation is least, with that deviation. Its denominator is no larger than twice the widest gap of inputs, in units of 1/d
 pub record TheLine (F : Line → Type 0) (P : Points) (f : Fit) : Type 0 where
   pub told : Told f
   pub member : F (line-of f (told .some))
   pub reached : Within P (line-of f (told .some)) (natAbs (f .w)) (f .q)
   pub least : Least F P (natAbs (f .w)) (f .q)
   pub single : Single F P (natAbs (f .w)) (f .q)
+  pub unit : f .q ≤ 120000 * P .d
 
 -- h is the least largest deviation, which several lines reach
 pub record OnlyWidth (P : Points) (h : Wide) : Type 0 where

@@ -7,7 +7,7 @@ use lib.IntN.{ℤ, pos, natAbs, _+ℤ_, _-ℤ_, _*ℤ_}
 use lib.Signed.{_≤ℤ_, _<ℤ_}
 use Rattle.whole.specs.Poly.{var, lit, _⊕_, _⊖_}
 use Rattle.whole.specs.Ring.{ring}
-use Rattle.whole.specs.Size.{size-product}
+use Rattle.whole.specs.Size.{size-product, size-sub}
 use Rattle.whole.specs.Machine.{stored, stored-is}
 use Rattle.band.specs.Line.{Points, Proper, All}
 use Rattle.band.specs.Same.{same-written}
@@ -16,31 +16,39 @@ use Rattle.band.specs.Triple.{up-line, up-within, up-single, down-line, down-wi
 use Rattle.band.specs.Pair.{pair-line, pair-some, pair-within, pair-single}
 use Rattle.band.specs.Middle.{several}
 use Rattle.band.specs.Least.{least}
-use Rattle.band.specs.Band.{points, Admitted}
+use Rattle.band.specs.Band.{points, most-x, Admitted}
 use Rattle.fit.specs.Answer.{TheLine, OnlyWidth}
 use Rattle.fit.specs.Parts.{FitParts, Chosen, PairParts, WideParts}
 use Rattle.band.specs.Search.{shown, BestOf}
 use Rattle.band.specs.SearchSize.{num-size, top-size}
 use Rattle.band.specs.SearchLaws.{found}
-use Rattle.fit.specs.Scaled.{Alike, alike-written, least-alike, several-alike, the-line}
+use Rattle.fit.specs.Scaled.{Alike, unit-most, alike-written, least-alike, several-alike, the-line}
 use Rattle.band.specs.declared.Band.{Band}
 use Rattle.fit.specs.declared.Fit.{Fit}
 use Rattle.fit.specs.declared.Wide.{Wide}
 use Rattle.band.specs.declared.search.Candidate as S
 use Rattle.band.specs.declared.search.Top.{Top}
 
+-- no two inputs are more than 60,000 apart
+abbrev pub Near : Points → Type 0
+Near P = (i k : ℕ) → i < P .m → k < P .m → natAbs (P .x k -ℤ P .x i) ≤ 60000
+
 -- a denominator that is told, as the theory has it
 told-part : (z : ℤ) (q d : ℕ) → pos q ≡ pos 2 *ℤ z *ℤ pos d → q ≡ 2 * natAbs z * d
 told-part z q d e = ap natAbs e ∙ size-product (pos 2 *ℤ z) (pos d) ∙ ap (λ (n : ℕ). n * d) (size-product (pos 2) z)
 
-module _ {P : Points} (proper : Proper P) {f : Fit} where
+-- two inputs of an admitted band are at most 60,000 apart
+pub near : {g : Band} → Admitted g → Near (points g)
+near {g} a i k h j = size-sub (points g .x k) (points g .x i) most-x most-x (a .inputs k j) (a .inputs i h)
+
+module _ {P : Points} (proper : Proper P) (close : Near P) {f : Fit} where
   pub up-best : (i j k : ℕ) → Greatest P (up i j k) → (n : ℤ) → n ≡ num P (up i j k) → FitParts (pos 2 *ℤ (P .high k -ℤ P .high i)) (pos 2 *ℤ (P .x k *ℤ P .high i -ℤ P .x i *ℤ P .high k) -ℤ n) (pos 2 *ℤ (P .x k -ℤ P .x i) *ℤ pos (P .d)) n f → TheLine All P f
   up-best i j k g n e p =
       let some = part-some proper (up i j k) (g .fits) in
       let q = told-part (P .x k -ℤ P .x i) (f .q) (P .d) (p .q-is) in
       let c = pos 2 *ℤ (P .x k *ℤ P .high i -ℤ P .x i *ℤ P .high k) in
       the-line (p .told) (up-line P i j k some) tt (same-written (sym (p .a-is)) (sym (p .b-is ∙ ap (λ (t : ℤ). c -ℤ t) e)) (sym q)) (up-within proper i j k g some) (least proper (up i j k) g) (up-single proper i j k g)
-      (alike-written some (ap natAbs (sym (p .w-is ∙ e))) (sym q))
+      (alike-written some (ap natAbs (sym (p .w-is ∙ e))) (sym q)) (unit-most (f .q) (natAbs (P .x k -ℤ P .x i)) (P .d) q (close i k (omega (arith, g .fits .0, g .fits .1, g .fits .2)) (g .fits .2)))
 
   pub down-best : (i j k : ℕ) → Greatest P (down i j k) → (n : ℤ) → n ≡ num P (down i j k) → FitParts (pos 2 *ℤ (P .low k -ℤ P .low i)) (pos 2 *ℤ (P .x k *ℤ P .low i -ℤ P .x i *ℤ P .low k) -ℤ (pos 0 -ℤ n)) (pos 2 *ℤ (P .x k -ℤ P .x i) *ℤ pos (P .d)) n f → TheLine All P f
   down-best i j k g n e p =
@@ -49,7 +57,7 @@ module _ {P : Points} (proper : Proper P) {f : Fit} where
       let c = pos 2 *ℤ (P .x k *ℤ P .low i -ℤ P .x i *ℤ P .low k) in
       let b : c -ℤ (pos 0 -ℤ n) ≡ c +ℤ num P (down i j k) = ring (c ∷ n ∷ []) (var 0 ⊖ (lit 0 ⊖ var 1)) (var 0 ⊕ var 1) tt ∙ ap (λ (t : ℤ). c +ℤ t) e in
       the-line (p .told) (down-line P i j k some) tt (same-written (sym (p .a-is)) (sym (p .b-is ∙ b)) (sym q)) (down-within proper i j k g some) (least proper (down i j k) g) (down-single proper i j k g)
-      (alike-written some (ap natAbs (sym (p .w-is ∙ e))) (sym q))
+      (alike-written some (ap natAbs (sym (p .w-is ∙ e))) (sym q)) (unit-most (f .q) (natAbs (P .x k -ℤ P .x i)) (P .d) q (close i k (omega (arith, g .fits .0, g .fits .1, g .fits .2)) (g .fits .2)))
 
   pub pair-best : (i j : ℕ) → i < j → j < P .m → Greatest P (one i) → num P (one j) ≡ num P (one i) → PairParts P i j f → TheLine All P f
   pair-best i j ij jm g same p =
@@ -57,7 +65,7 @@ module _ {P : Points} (proper : Proper P) {f : Fit} where
       let q = told-part (P .x j -ℤ P .x i) (f .q) (P .d) (p .q-is) in
       let w : natAbs (f .w) ≡ natAbs (num P (one i)) * natAbs (P .x j -ℤ P .x i) = ap natAbs (p .w-is) ∙ size-product (num P (one i)) (P .x j -ℤ P .x i) in
       the-line (p .told) (pair-line P i j some) tt (same-written (sym (p .a-is)) (sym (p .b-is)) (sym q)) (pair-within proper i j ij jm g same some) (least proper (one i) g) (pair-single proper i j ij jm g same)
-      (record { some = part-some proper (one i) (g .fits); some′ = p .told .some; is = ap (λ (n : ℕ). wide P (one i) * n) q ∙ regroup (wide P (one i)) (natAbs (P .x j -ℤ P .x i)) (P .d) ∙ sym (ap (λ (n : ℕ). n * part P (one i)) w) })
+      (record { some = part-some proper (one i) (g .fits); some′ = p .told .some; is = ap (λ (n : ℕ). wide P (one i) * n) q ∙ regroup (wide P (one i)) (natAbs (P .x j -ℤ P .x i)) (P .d) ∙ sym (ap (λ (n : ℕ). n * part P (one i)) w) }) (unit-most (f .q) (natAbs (P .x j -ℤ P .x i)) (P .d) q (close i j (omega arith) jm))
     where
       regroup : (n s d : ℕ) → n * (2 * s * d) ≡ n * s * (2 * 1 * d)
       regroup n s d = omega arith

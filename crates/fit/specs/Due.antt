@@ -16,7 +16,7 @@ use Rattle.band.specs.Shift.{Range, moved, moved-some, moved-within, moved-leas
 use Rattle.band.specs.Band.{points, Admitted, Level}
 use Rattle.fit.specs.Answer.{line-of, TheLine, TheTerminal}
 use Rattle.fit.specs.Parts.{FitParts}
-use Rattle.fit.specs.Scaled.{Alike, least-family, single-family, parallel-same, the-line}
+use Rattle.fit.specs.Scaled.{Alike, least-family, single-family, parallel-same, unit-most, the-line}
 use Rattle.fit.specs.Greater.{greater}
 use Rattle.fit.specs.Ends.{EndsOf, Ranged, Ready}
 use Rattle.fit.specs.EndsLine.{Has, has-terminal, has-range, has-largest}
@@ -80,11 +80,13 @@ module _ {g : Band} {e : Ends} {r : Spread} (a : Admitted g) (level : Level g) (
           ∙ sym (ap₂ (λ (s t : ℤ). s *ℤ (pos 2 *ℤ pos (g .d) *ℤ t)) (p .b-is) base-q);
     }
 
+    part : f .q ≡ 2 * natAbs (e .s) * g .d
+    part = ap natAbs (p .q-is) ∙ size-product (pos 2 *ℤ e .s) (pos (g .d)) ∙ ap (λ (n : ℕ). n * g .d) (size-product (pos 2) (e .s))
+
     alike : Alike (shift-wide (pos (g .d) *ℤ r .lo) (pos (g .d) *ℤ r .hi)) (shift-part (points g) base) (natAbs (f .w)) (f .q)
     unfolding base
     alike =
         let wide : natAbs (pos (g .d) *ℤ r .hi -ℤ pos (g .d) *ℤ r .lo) ≡ g .d * natAbs (f .w) = ap natAbs (ring (pos (g .d) ∷ r .hi ∷ r .lo ∷ []) (var 0 ⊗ var 1 ⊖ var 0 ⊗ var 2) (var 0 ⊗ (var 1 ⊖ var 2)) tt) ∙ size-product (pos (g .d)) (r .hi -ℤ r .lo) ∙ ap (λ (z : ℤ). g .d * natAbs z) (sym (p .w-is)) in
-        let part : f .q ≡ 2 * natAbs (e .s) * g .d = ap natAbs (p .q-is) ∙ size-product (pos 2 *ℤ e .s) (pos (g .d)) ∙ ap (λ (n : ℕ). n * g .d) (size-product (pos 2) (e .s)) in
         record {
           some = moved-least (a .proper) range .some;
           some′ = p .told .some;
@@ -96,8 +98,9 @@ module _ {g : Band} {e : Ends} {r : Spread} (a : Admitted g) (level : Level g) (
 
     pub shifted-due : (T : Line) → Terminal (points g) T → TheLine (Parallel T) (points g) f
     shifted-due T h =
-        let e : Same base T = terminal-same (a .proper) base T (has-terminal (points g) _ base has t) h in
-        the-line (p .told) M (parallel-same e L parallel) same (moved-within (a .proper) range (moved-some (a .proper) base))
-        (least-family (parallel-same e) (parallel-same (same-sym e)) (moved-least (a .proper) range))
-        (single-family (parallel-same e) (parallel-same (same-sym e)) (moved-single (a .proper) range))
+        let same-base : Same base T = terminal-same (a .proper) base T (has-terminal (points g) _ base has t) h in
+        the-line (p .told) M (parallel-same same-base L parallel) same (moved-within (a .proper) range (moved-some (a .proper) base))
+        (least-family (parallel-same same-base) (parallel-same (same-sym same-base)) (moved-least (a .proper) range))
+        (single-family (parallel-same same-base) (parallel-same (same-sym same-base)) (moved-single (a .proper) range))
         alike
+        (unit-most (f .q) (natAbs (e .s)) (g .d) part (ready .bounds .1 .1 .0))

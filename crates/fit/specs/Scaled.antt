@@ -58,6 +58,10 @@ module _ {F G : Line → Type 0} (to : (L : Line) → F L → G L) (from : (L : 
 pub parallel-same : {L N : Line} → Same L N → (M : Line) → Parallel L M → Parallel N M
 parallel-same {L} {N} e M h = through (M .a) (L .a) (N .a) _ _ _ (positive-nat (L .some)) h (e .slope)
 
+-- a denominator of twice a gap, in units of 1/d
+pub unit-most : (q n d : ℕ) → q ≡ 2 * n * d → n ≤ 60000 → q ≤ 120000 * d
+unit-most q n d e h = omega (arith, mul-le-mul-right d h)
+
 -- ---- a line that is written otherwise
-pub the-line : {F : Line → Type 0} {P : Points} {f : Fit} {w z : ℕ} (told : Told f) (L : Line) → F (line-of f (told .some)) → Same L (line-of f (told .some)) → Within P L w z → Least F P w z → Single F P w z → Alike w z (natAbs (f .w)) (f .q) → TheLine F P f
-the-line told L member same W M s e = record { told = told; member = member; reached = within-alike e (same-within same W); least = least-alike e M; single = single-alike e s }
+pub the-line : {F : Line → Type 0} {P : Points} {f : Fit} {w z : ℕ} (told : Told f) (L : Line) → F (line-of f (told .some)) → Same L (line-of f (told .some)) → Within P L w z → Least F P w z → Single F P w z → Alike w z (natAbs (f .w)) (f .q) → f .q ≤ 120000 * P .d → TheLine F P f
+the-line told L member same W M s e u = record { told = told; member = member; reached = within-alike e (same-within same W); least = least-alike e M; single = single-alike e s; unit = u }

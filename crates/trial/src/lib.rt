@@ -2,11 +2,13 @@
 ghost use mathlib.Core.Path.{_≡_};
 ghost use Prim.Native.Nat.{_<_, _^_};
 ghost use lib.IntN.{pos, _-ℤ_};
+ghost use lib.ListN.{length};
 ghost use Rattle.trial.specs.Word.{four, little};
 use exact::Fraction;
 use libc::STDIN_FILENO;
 use libc::STDOUT_FILENO;
 use units::Input;
+use units::Reading;
 
 fn quad(a: u8, b: u8, c: u8, d: u8) -> u64
     ensures value { λ r. ⌜ r ≡ four a b c d ⌝ }
@@ -90,6 +92,18 @@ pub fn next_inputs() -> [Input; 11] {
     x
 }
 
+pub fn next_readings() -> [Reading; 220] {
+    let mut y = [Reading { count: 0 }; 220];
+    let mut i = 0;
+    while i < 220 {
+        y[i] = Reading {
+            count: next_signed(),
+        };
+        i += 1;
+    }
+    y
+}
+
 // A byte as two digits.
 pub fn print_byte(b: u8) {
     io::print_hex(STDOUT_FILENO, b as u64, 2);
@@ -101,4 +115,21 @@ pub fn print_space() {
 
 pub fn print_line_end() {
     io::write_all(STDOUT_FILENO, b"\n");
+}
+
+// The buffer's bytes, two digits each.
+pub fn print_bytes(b: &[u8]) {
+    let mut i = 0;
+    while i < b.len() {
+        print_byte(b[i]);
+        i += 1;
+    }
+    print_line_end();
+}
+
+// What a buffer holds before a write. The contract gives only the length, which lending a part of it needs.
+pub fn background() -> [u8; 2048]
+    ensures { λ r. ⌜ 2048 ≡ length r ⌝ }
+{
+    [170; 2048]
 }

@@ -8,7 +8,7 @@ use Rattle.band.specs.Candidate.{up, down}
 use Rattle.band.specs.Band.{Admitted}
 use Rattle.band.specs.Admit.{admits}
 use Rattle.band.specs.AdmitLaws.{admits-admitted, admitted-admits}
-use Rattle.fit.specs.BestLaws.{found-is, num-is, chosen, up-best, down-best}
+use Rattle.fit.specs.BestLaws.{near, found-is, num-is, chosen, up-best, down-best}
 use Rattle.fit.proofs.best.Statement.{statement}
 use Rattle.fit.proofs.best.Tie as tie
 
@@ -63,7 +63,7 @@ returns-3 c =
     let t = c .before .before .before .before .before in
     let a = admitted (t .before) in
     let b = t .greatest .ensures in
-    (a, up-best (a .proper) (w .0 .0) (w .0 .1 .0) (w .0 .1 .1 .0) (found-is a b (w .1)) _ (num-is a b (w .1)) (c .over-high .ensures))
+    (a, up-best (a .proper) (near a) (w .0 .0) (w .0 .1 .0) (w .0 .1 .1 .0) (found-is a b (w .1)) _ (num-is a b (w .1)) (c .over-high .ensures))
 
 returns-4 : tie.Need-returns-4
 returns-4 c =
@@ -71,7 +71,7 @@ returns-4 c =
     let t = c .before .before .before .before .before in
     let a = admitted (t .before) in
     let b = t .greatest .ensures in
-    (a, down-best (a .proper) (w .0 .0) (w .0 .1 .0) (w .0 .1 .1 .0) (found-is a b (w .1)) _ (num-is a b (w .1)) (c .over-low .ensures))
+    (a, down-best (a .proper) (near a) (w .0 .0) (w .0 .1 .0) (w .0 .1 .1 .0) (found-is a b (w .1)) _ (num-is a b (w .1)) (c .over-low .ensures))
 
 pub best-spec : {M : Type 1} → statement M
 best-spec =

@@ -12,7 +12,7 @@ use Rattle.fit.specs.Ends.{most-e}
 use Rattle.band.specs.Twin.{apart}
 use Rattle.band.specs.SearchSize.{num-size}
 use Rattle.band.specs.TwinLaws.{twin-other, twin-same, alone}
-use Rattle.fit.specs.BestLaws.{found-is, num-is, pair-best, greatest-twin, several-best}
+use Rattle.fit.specs.BestLaws.{near, found-is, num-is, pair-best, greatest-twin, several-best}
 use Rattle.fit.proofs.single.Statement.{statement}
 use Rattle.fit.proofs.single.Tie as tie
 
@@ -63,7 +63,7 @@ returns-2 c =
     let s = t .before in
     let P = points (s .args .g) in
     let i = s .args .i in
-    (s .pre .0, pair-best (s .pre .0 .proper) i (t .twin .result) (e .if2 .taken) (other (e .before)) (greatest s) (sym (twin-same P i (t .twin .ensures) (other (e .before)))) (c .middles .ensures))
+    (s .pre .0, pair-best (s .pre .0 .proper) (near (s .pre .0)) i (t .twin .result) (e .if2 .taken) (other (e .before)) (greatest s) (sym (twin-same P i (t .twin .ensures) (other (e .before)))) (c .middles .ensures))
 
 returns-3 : tie.Need-returns-3
 returns-3 c =
@@ -73,7 +73,7 @@ returns-3 c =
     let P = points (s .args .g) in
     let i = s .args .i in
     let q = twin-same P i (t .twin .ensures) (other (e .before)) in
-    (s .pre .0, pair-best (s .pre .0 .proper) (t .twin .result) i (below e) (greatest s .fits) (greatest-twin q (other (e .before)) (greatest s)) q (c .middles2 .ensures))
+    (s .pre .0, pair-best (s .pre .0 .proper) (near (s .pre .0)) (t .twin .result) i (below e) (greatest s .fits) (greatest-twin q (other (e .before)) (greatest s)) q (c .middles2 .ensures))
 
 pub single-spec : {M : Type 1} → statement M
 single-spec = tie.close (tie.spec twin-requires only-requires returns middles-requires middles-requires-2 returns-2 returns-3)

@@ -1,9 +1,9 @@
--- `answers::print_bytes` ends, and reads within the slice.
+-- `trial::print_bytes` ends, and reads within the slice.
 use Prim.Native.Nat.{_-_, _≤_}
 use lib.ListN.{length}
 use borrow.Author.Needs.{needs}
-use Rattle.answers.proofs.print_bytes.Statement.{statement}
-use Rattle.answers.proofs.print_bytes.Tie as tie
+use Rattle.trial.proofs.print_bytes.Statement.{statement}
+use Rattle.trial.proofs.print_bytes.Tie as tie
 
 abbrev Inv-loop : tie.InvT-loop
 Inv-loop b i₀ i = i ≤ length b

@@ -1,10 +1,10 @@
--- `answers::next_readings` ends, and writes within its array.
+-- `trial::next_readings` ends, and writes within its array.
 use Prim.Native.Nat.{_-_, _≤_}
 use mathlib.Core.Path.{_≡_}
 use lib.ListN.{length}
 use borrow.Author.Needs.{needs}
-use Rattle.answers.proofs.next_readings.Statement.{statement}
-use Rattle.answers.proofs.next_readings.Tie as tie
+use Rattle.trial.proofs.next_readings.Statement.{statement}
+use Rattle.trial.proofs.next_readings.Tie as tie
 
 abbrev Inv-loop : tie.InvT-loop
 Inv-loop y₀ i₀ y i = (i ≤ 220) × (length y ≡ 220)
