@@ -1,10 +1,15 @@
-.PHONY: sheet test
+.PHONY: sheet runs test
 
-# Prints what the bench can show so far: the indices of the paper's figures with their thousandths of one percent, and the lines of the Standard's tables A4 and A1.
+# Prints the sheet of one run file: make sheet RUN=FILE. Without RUN it is the paper's own run.
+RUN ?= runs/sample.run
 sheet:
-	@tools/run figures <crates/figures/stdin
-	@tools/run lines <crates/lines/stdin
+	@tools/run sheet <$(RUN)
 
-# Every proof from nothing, every must-fail edit, every program, and the comparison with the second program.
+# Compares the sheet of every run in a folder with the one worked by hand: make runs RUNS=FOLDER. Without RUNS it is the folder runs.
+RUNS ?= runs
+runs:
+	@python3 tests/check_runs.py $(RUNS)
+
+# Every proof from nothing, every must-fail edit, every program, the comparison with the second program, and the runs worked by hand.
 test:
 	@python3 tests/gate.py

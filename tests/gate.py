@@ -1,5 +1,5 @@
 """The test command: `make test`. Its last line is 'N passed, 0 failed' only where all of this held:
-the files are laid out as `rt fmt` lays them, `rt ci` ended with status 0 and its own such line, and every comparison with the second program ran and agreed."""
+the files are laid out as `rt fmt` lays them, `rt ci` ended with status 0 and its own such line, and every comparison with the second program and with the sheets worked by hand ran and agreed."""
 import os
 import re
 import subprocess
@@ -10,11 +10,13 @@ HERE = os.path.dirname(os.path.abspath(__file__))
 ROOT = os.path.dirname(HERE)
 sys.path.insert(0, HERE)
 
+import check_runs  # noqa: E402
 import compare_files  # noqa: E402
 import compare_fractions  # noqa: E402
 import compare_lines  # noqa: E402
+import compare_sheets  # noqa: E402
 
-COMPARISONS = [compare_fractions, compare_files, compare_lines]
+COMPARISONS = [compare_fractions, compare_files, compare_lines, compare_sheets, check_runs]
 
 
 def say(text):
@@ -86,7 +88,7 @@ def main():
             say('DISAGREES: ' + text)
         if wrong or not count:
             stop('%d disagreements in %s' % (len(wrong), comparison.__name__))
-        say('%s: %d answers agreed with the second program' % (comparison.__name__, count))
+        say('%s: %d answers agreed with %s' % (comparison.__name__, count, getattr(comparison, 'AGREED_WITH', 'the second program')))
         passed += count
     say('time: %d s, of which rt ci %d s' % (time.time() - began, proved - began))
     say('%d passed, 0 failed' % passed)

@@ -23,10 +23,11 @@ def level(band):
 
 
 def at_slope(band, slope):
-    """(width, offset) of the best line of a slope."""
-    above = [Fraction(v, band.d) - slope * x for x, v in zip(band.x[:band.m], band.high)]
-    below = [Fraction(v, band.d) - slope * x for x, v in zip(band.x[:band.m], band.low)]
-    return (max(above) - min(below)) / 2, (max(above) + min(below)) / 2
+    """(width, offset) of the best line of a slope; counted in whole numbers of 1/(d*q), q being the slope's denominator, for speed alone."""
+    p, q = slope.numerator, slope.denominator
+    above = max(v * q - band.d * p * x for x, v in zip(band.x[:band.m], band.high))
+    below = min(v * q - band.d * p * x for x, v in zip(band.x[:band.m], band.low))
+    return Fraction(above - below, 2 * band.d * q), Fraction(above + below, 2 * band.d * q)
 
 
 def chords(band):

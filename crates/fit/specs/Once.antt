@@ -42,7 +42,7 @@ Agree drawn.Improper (drawn.Line h) = ⊥
 Agree drawn.Improper (drawn.Several h) = ⊥
 
 -- ---- fractions
-made-once : {n m : ℤ} {p q : ℕ} {f h : Fraction} → Made n p f → Made m q h → 0 < p → 0 < q → n *ℤ pos q ≡ m *ℤ pos p → f ≡ h
+pub made-once : {n m : ℤ} {p q : ℕ} {f h : Fraction} → Made n p f → Made m q h → 0 < p → 0 < q → n *ℤ pos q ≡ m *ℤ pos p → f ≡ h
 made-once {n} {m} {p} {q} {f} {h} a b hp hq e =
     same-terms (a .lowest) (b .lowest)
     (through (f .num) m (h .num) (pos q) (pos (f .den)) (pos (h .den)) (positive-nat hq) (through (f .num) n m (pos p) (pos (f .den)) (pos q) (positive-nat hp) (a .worth hp) e) (sym (b .worth hq)))
@@ -81,7 +81,7 @@ one-best g drawn.Improper (drawn.Several h) a b = a (b .0)
 one-best g drawn.Improper drawn.Improper a b = tt
 
 -- `terminal`
-same-largest : {P : Points} {L M : Line} {w z : ℕ} → Same L M → Largest P L w z → Largest P M w z
+pub same-largest : {P : Points} {L M : Line} {w z : ℕ} → Same L M → Largest P L w z → Largest P M w z
 same-largest e A = record { some = A .some; within = same-within e (A .within); least = λ w′ z′ h W. A .least w′ z′ h (same-within (same-sym e) W) }
 
 pub one-terminal : (g : Band) (r s : Drawn) → TerminalDue g r → TerminalDue g s → Agree r s

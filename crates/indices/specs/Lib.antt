@@ -1,0 +1,9 @@
+pub mod Through
+pub mod Due
+pub mod Parts
+pub mod Transfer
+pub mod Admitted
+pub mod Standing
+pub mod Given
+pub mod Once
+pub mod BandLaws

@@ -1,0 +1,9 @@
+pub mod Digits
+pub mod Sheet
+pub mod Grown
+pub mod GrownLaws
+pub mod DigitLaws
+pub mod Longest
+pub mod SheetLaws
+pub mod CopyLaws
+pub mod Vectors

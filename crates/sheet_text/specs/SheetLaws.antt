@@ -1,0 +1,70 @@
+-- Laws of a sheet: its lines are the parts that a text grows by, and it fits a text.
+use mathlib.Core.Path.{_≡_, sym, ap, subst, _∙_}
+use mathlib.Core.List.{List, [], _∷_, _++_}
+use Prim.Native.Nat.{ℕ}
+use borrow.Author.Tests.{eq-eqb, ne-eqb}
+use lib.Seq.{take-all}
+use Rattle.run.specs.declared.Run.{Run}
+use Rattle.reader.specs.Meaning.{meaning}
+use Rattle.reader.specs.declared.Answer as R
+use Rattle.indices.specs.declared.Answer.{Answer}
+use Rattle.indices.specs.declared.Index.{Index}
+use Rattle.indices.specs.declared.Index.the-variants as index
+use Rattle.sheet_text.specs.Digits.{decimal}
+use Rattle.sheet_text.specs.Sheet.{space, line-feed, refused-word, told, head-line, index-line, last-line, lines, refused-line, SheetDue, refused, accepted, longest}
+use Rattle.sheet_text.specs.Grown.{text, grown, RunText}
+use Rattle.sheet_text.specs.GrownLaws.{grown-five}
+use Rattle.sheet_text.specs.Longest.{fits-lines, fits-refused}
+use Rattle.sheet_text.specs.declared.text.Text.{Text}
+
+-- ---- what follows a name
+pub told-figures : (number : ℕ) (figures : List ℕ) → number ≡ 0 → told number figures ≡ space ∷ (figures ++ (line-feed ∷ []))
+told-figures number figures e = simp (eq-eqb number 0 e)
+
+pub told-refused : (number : ℕ) (figures : List ℕ) → (number ≡ 0 → ⊥) → told number figures ≡ space ∷ ((refused-word ++ decimal number) ++ (line-feed ∷ []))
+told-refused number figures n = simp (ne-eqb number 0 n)
+
+-- ---- seven answers
+module _ (a b c d e f g : Answer) where
+  abbrev pub answers : Index → Answer
+  answers index.Terminal = a
+  answers index.Shifted = b
+  answers index.Independent = c
+  answers index.Hysteresis = d
+  answers index.Repeatability = e
+  answers index.Lh = f
+  answers index.Lhr = g
+
+  pub each : (P : Index → Answer → Type 0) → P index.Terminal a → P index.Shifted b → P index.Independent c → P index.Hysteresis d → P index.Repeatability e → P index.Lh f → P index.Lhr g → (i : Index) → P i (answers i)
+  each P p q r s t u v index.Terminal = p
+  each P p q r s t u v index.Shifted = q
+  each P p q r s t u v index.Independent = r
+  each P p q r s t u v index.Hysteresis = s
+  each P p q r s t u v index.Repeatability = t
+  each P p q r s t u v index.Lh = u
+  each P p q r s t u v index.Lhr = v
+
+-- nine lines that go behind an empty text one after the other
+module _ (m n : ℕ) (A : Index → Answer) where
+  abbrev line : Index → List ℕ
+  line i = index-line i (A i)
+
+  pub lines-grown : {t t1 t2 t3 t4 t5 t6 t7 t8 t9 : List ℕ} → t ≡ [] → t1 ≡ grown t (head-line m n) → t2 ≡ grown t1 (line index.Terminal) → t3 ≡ grown t2 (line index.Shifted) → t4 ≡ grown t3 (line index.Independent) → t5 ≡ grown t4 (line index.Hysteresis) → t6 ≡ grown t5 (line index.Repeatability) → t7 ≡ grown t6 (line index.Lh) → t8 ≡ grown t7 (line index.Lhr) → t9 ≡ grown t8 (last-line (A index.Lhr)) → t9 ≡ lines m n A
+  lines-grown {t} {t4} z e1 e2 e3 e4 e5 e6 e7 e8 e9 =
+      let last = line index.Hysteresis ++ (line index.Repeatability ++ (line index.Lh ++ (line index.Lhr ++ last-line (A index.Lhr)))) in
+      grown-five t (head-line m n) (line index.Terminal) (line index.Shifted) (line index.Independent) last e1 e2 e3 e4
+      (grown-five t4 (line index.Hysteresis) (line index.Repeatability) (line index.Lh) (line index.Lhr) (last-line (A index.Lhr)) e5 e6 e7 e8 e9)
+      ∙ ap (λ (l : List ℕ). grown l (lines m n A)) z
+      ∙ take-all longest (lines m n A) (fits-lines m n A)
+
+-- ---- the sheet of a byte string that was read
+module _ {s : List ℕ} {a : R.Answer} (e : a ≡ meaning s) where
+  pub sheet-refused : {t : List ℕ} → (a .number ≡ 0 → ⊥) → t ≡ grown [] (refused-line (a .number) (a .place)) → SheetDue s t
+  sheet-refused {t} n f =
+      refused (λ z. n (ap (λ (b : R.Answer). b .number) e ∙ z))
+      (f ∙ take-all longest (refused-line (a .number) (a .place)) (fits-refused (a .number) (a .place)) ∙ ap (λ (b : R.Answer). refused-line (b .number) (b .place)) e)
+
+  pub sheet-accepted : (t : Text) → a .number ≡ 0 → RunText (a .run) t → SheetDue s (text t)
+  sheet-accepted t z f =
+      let g = subst (λ (r : Run). RunText r t) (ap (λ (b : R.Answer). b .run) e) f in
+      accepted (sym (ap (λ (b : R.Answer). b .number) e) ∙ z) (g .answers) (g .due) (g .is)

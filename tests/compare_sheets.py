@@ -1,0 +1,329 @@
+"""Holds what the programs `sheets` and `sheet` print of files and of runs built by hand to what second/sheet.py says, byte for byte, and both to the figures of the paper and the Standard."""
+import os
+from itertools import zip_longest
+
+import make_sheets
+import worked_runs
+import wrong_sheets
+from second import sheet
+from second.sheet import NAMES, Answer, Bench, text
+
+BEFORE = 170
+ROOM = 700
+FOLDER = os.path.join(os.path.dirname(os.path.dirname(os.path.abspath(__file__))), 'runs')
+
+# The figures to meet, typed from the paper: the sample's sheet, ...
+SAMPLE_SHEET = b'''points 3 cycles 2
+terminal 97/2000 4.850
+shifted 97/4000 2.425
+independent 97/4000 2.425
+hysteresis 1/200 0.500
+repeatability 9/1000 0.900
+lh 13/500 2.600
+lhr 61/2000 3.050
+line 100/1 -57/1
+'''
+
+# ... fields of the indices of runs, ...
+FIGURES = [
+    ('a4', 'terminal', {'number': '0', 'index': '69/5015', 'thousandths': '1376'}),
+    ('a4', 'shifted', {'number': '0', 'index': '97/10030', 'thousandths': '967'}),
+    ('a4', 'independent', {'number': '0', 'index': '9/1010', 'thousandths': '891'}),
+    ('a1', 'terminal', {'number': '0', 'index': '206/24985', 'thousandths': '824'}),
+    ('a1', 'independent', {'number': '0', 'index': '4/745', 'thousandths': '537'}),
+    ('lh single', 'lh', {'number': '0', 'place': '0', 'slope': '10/1', 'offset': '6/1', 'index': '3/100'}),
+    ('lh not single', 'lh', {'number': '12', 'place': '0', 'width': '6/1', 'slope': '0/1', 'offset': '0/1', 'index': '0/1', 'thousandths': '0'}),
+    ('zeros', 'independent', {'number': '11', 'place': '0', 'width': '0/1', 'slope': '0/1', 'offset': '0/1', 'index': '0/1', 'thousandths': '0'}),
+    ('sample', 'terminal', {'number': '0', 'index': '97/2000', 'thousandths': '4850'}),
+    ('sample', 'shifted', {'number': '0', 'index': '97/4000', 'thousandths': '2425'}),
+    ('sample', 'independent', {'number': '0', 'index': '97/4000', 'thousandths': '2425'}),
+    ('sample', 'hysteresis', {'number': '0', 'index': '1/200', 'thousandths': '500'}),
+    ('sample', 'repeatability', {'number': '0', 'index': '9/1000', 'thousandths': '900'}),
+    ('sample', 'lh', {'number': '0', 'index': '13/500', 'thousandths': '2600'}),
+    ('sample', 'lhr', {'number': '0', 'slope': '100/1', 'offset': '-57/1', 'index': '61/2000', 'thousandths': '3050'}),
+    # ... of Table C2 of the Standard (C2.1.6.3 to C2.1.6.5), ...
+    ('c2', 'independent', {'number': '0', 'thousandths': '167'}),
+    ('c2', 'hysteresis', {'number': '0', 'thousandths': '214'}),
+    ('c2', 'lh', {'number': '0', 'thousandths': '239'}),
+    # ... of a4 seen in a mirror, which are those of a4, and of half a thousandth, which goes upwards.
+    ('a4 falling', 'terminal', {'number': '0', 'index': '69/5015', 'thousandths': '1376'}),
+    ('a4 falling', 'shifted', {'number': '0', 'index': '97/10030', 'thousandths': '967'}),
+    ('a4 falling', 'independent', {'number': '0', 'index': '9/1010', 'thousandths': '891'}),
+    ('half', 'terminal', {'number': '0', 'index': '1/200000', 'thousandths': '1'}),
+] + [(name, index, {'number': '13', 'place': '0', 'width': '0/1', 'slope': '0/1', 'offset': '0/1', 'index': '0/1', 'thousandths': '0'}) for name in ('a1', 'a4', 'c2') for index in ('repeatability', 'lhr')]
+
+# The limits: the first line of the file's sheet, and number and place of every calculation of the run built by hand.
+LIMITS = [
+    ('m of 2', 'refused 3 at 0', '3 0'),
+    ('m of 3', 'points 3 cycles 2', '0 0'),
+    ('m of 11', 'points 11 cycles 2', '0 0'),
+    ('m of 12', 'refused 3 at 0', '3 0'),
+    ('x of 30000', 'points 3 cycles 1', '0 0'),
+    ('x of 30001', 'refused 5 at 15', '5 2'),
+    ('scatter of 10000', 'points 3 cycles 2', '0 0'),
+    ('scatter of 10001', 'refused 10 at 1', '10 1'),
+]
+
+# The means of the sample, in the head: U is 0, 1800, 4000 and D is 8, 1820, 4008.
+SAMPLE_MEANS = ['averages 0 0', 'up 0/1 900/1 2000/1' + 8 * ' 0/1', 'down 4/1 910/1 2004/1' + 8 * ' 0/1', 'both 2/1 905/1 2002/1' + 8 * ' 0/1']
+
+# Which numbers each index is to have been answered with.
+DUE_NUMBERS = {name: (0, 3, 5, 9, 10, 11) for name in NAMES}
+DUE_NUMBERS['repeatability'] += (13,)
+DUE_NUMBERS['lh'] += (12,)
+DUE_NUMBERS['lhr'] += (12, 13)
+
+
+def word(value):
+    return value.to_bytes(8, 'little')
+
+
+def file_request(data, room):
+    return word(0) + word(room) + word(len(data)) + data
+
+
+def run_request(run):
+    return word(1) + word(run.m) + word(run.n) + b''.join(word(v + 2**63) for v in run.inputs() + run.readings())
+
+
+def buffer_lines(due, room):
+    """What is due of a sheet in a lent buffer: the sheet at its front, or 14 and nothing touched."""
+    before = bytes([BEFORE]) * room
+    if len(due) > room:
+        return ['sheet 14 0', before.hex()]
+    return ['sheet 0 %d' % len(due), (due + before[len(due):]).hex()]
+
+
+def fractions_line(name, values):
+    return ' '.join([name] + [text(v) for v in values])
+
+
+def answer_line(name, answer):
+    fractions = [text(v) for v in (answer.width, answer.slope, answer.offset, answer.index)]
+    return ' '.join([name, str(answer.number), str(answer.place)] + fractions + [str(answer.thousandths)])
+
+
+def run_lines(bench):
+    means = bench.averages()
+    out = ['averages %d %d' % (means.number, means.place)]
+    out += [fractions_line(name, getattr(means, name)) for name in ('up', 'down', 'both')]
+    return out + [answer_line(name, answer) for name, answer in zip(NAMES, bench.answers)]
+
+
+class Benches:
+    """Works each run once, though it comes as a file and as a run built by hand."""
+
+    def __init__(self):
+        self.worked = {}
+
+    def __call__(self, run, data=b''):
+        key = run.m, run.n, tuple(run.inputs()), tuple(run.readings())
+        if key not in self.worked:
+            self.worked[key] = Bench(run, data)
+        return self.worked[key]
+
+
+class Case:
+    """One request: what it is of, its bytes and the lines due."""
+
+    def __init__(self, what, request, due):
+        self.what, self.request, self.due = what, request, due
+
+
+def file_case(name, data, due, room=ROOM):
+    return Case('file %s with room %d' % (name, room), file_request(data, room), buffer_lines(due, room))
+
+
+def tight_cases(files, dues):
+    """Every fiftieth file with a buffer that just holds its sheet, one byte less, one more, and none."""
+    for (name, data), due in list(zip(files, dues))[::50]:
+        for room in (len(due), len(due) - 1, len(due) + 1, 0):
+            yield file_case(name, data, due, room)
+
+
+def readable(part):
+    return part is None or all(byte < 128 for byte in part)
+
+
+def sheet_difference(got, due):
+    """The first difference of two sheets in words: a line of them, or a byte where there is none to read, as behind a sheet in its buffer."""
+    for at, (printed, right) in enumerate(zip_longest(got.split(b'\n'), due.split(b'\n')), 1):
+        if printed != right and readable(printed) and readable(right):
+            shown = [None if part is None else part.decode('ascii') for part in (printed, right)]
+            return 'line %d of the sheet: printed %r, due %r' % (at, *shown)
+    return next('byte %d: printed %r, due %r' % (at, printed, right) for at, (printed, right) in enumerate(zip_longest(got, due)) if printed != right)
+
+
+def is_hex(line):
+    return len(line) % 2 == 0 and all(c in '0123456789abcdef' for c in line)
+
+
+def difference(case, got):
+    """The first difference between what a request printed and what is due, in words."""
+    for at, (printed, right) in enumerate(zip_longest(got, case.due), 1):
+        if printed == right:
+            continue
+        if at == 2 and case.due[0].startswith('sheet') and printed is not None and is_hex(printed):
+            return '%s, %s' % (case.what, sheet_difference(bytes.fromhex(printed), bytes.fromhex(right)))
+        return '%s, line %d: printed %.300r, due %.300r' % (case.what, at, printed, right)
+    return None
+
+
+def compare_cases(cases, printed):
+    """Returns what was printed for each case up to the first that differs, and that difference."""
+    at, answers = 0, []
+    for case in cases:
+        got = printed[at:at + len(case.due)]
+        at += len(case.due)
+        fault = difference(case, got)
+        if fault:
+            return answers, ['sheets of ' + fault]
+        answers.append(got)
+    return answers, [] if printed[at:] == [''] else ['sheets printed more than is due: %r' % printed[at:][:2]]
+
+
+def figure_faults(who, sheets, runs):
+    """Where a program is not what the paper says, by its sheets (bytes by file name) and its lines (by run name)."""
+    if sheets['sample'] != SAMPLE_SHEET:
+        yield '%s prints another sheet of the sample than the paper' % who
+    if runs['sample'][:4] != SAMPLE_MEANS:
+        yield '%s has other means of the sample: %r' % (who, runs['sample'][:4])
+    for name, index, fields in FIGURES:
+        line = next(line for line in runs[name] if line.startswith(index + ' '))
+        found = dict(zip(Answer._fields, line.split(' ')[1:]))
+        for field, right in fields.items():
+            if found[field] != right:
+                yield '%s gives %s %s of %s as %s, where %s is the figure' % (who, index, field, name, found[field], right)
+    for name, first, verdict in LIMITS:
+        if sheets[name].decode('ascii').split('\n')[0] != first:
+            yield '%s begins the sheet of %s with %r, where %r is due' % (who, name, sheets[name].decode('ascii').split('\n')[0], first)
+        for line in [runs[name][0]] + runs[name][4:]:
+            number, place = line.split(' ')[1:3]
+            # slope zero and one cycle are no matter of limits
+            if '%s %s' % (number, place) != verdict and (verdict, number) not in (('0 0', '11'), ('0 0', '12'), ('0 0', '13')):
+                yield '%s gives %r of %s, where number and place are %s' % (who, line, name, verdict)
+
+
+def printed_sheet(got):
+    """The sheet at the front of a printed buffer."""
+    return bytes.fromhex(got[1])[:int(got[0].split(' ')[2])]
+
+
+def named_files(files):
+    """The first file of a name, its shuffle left out of the name."""
+    return {name.split(', shuffled')[0]: which for which, (name, _) in reversed(list(enumerate(files)))}
+
+
+def refusals_met(dues):
+    """How many sheets had each refusal: 1 to 10 as the only line, 11 to 13 in the line of an index."""
+    met = dict.fromkeys(range(1, 14), 0)
+    for due in dues:
+        fields = [line.split(' ') for line in due.decode('ascii').split('\n')[:-1]]
+        indices = {int(line[2]) for line in fields if line[0] in NAMES and line[1] == 'refused'}
+        for number in {int(fields[0][1])} if fields[0][0] == 'refused' else indices:
+            met[number] += 1
+    return met
+
+
+def numbers_met(benches):
+    """How often each index was answered with each number."""
+    met = {name: {} for name in NAMES}
+    for bench in benches:
+        for name, answer in zip(NAMES, bench.answers):
+            met[name][answer.number] = met[name].get(answer.number, 0) + 1
+    return met
+
+
+def counts_text(counts):
+    return ', '.join('%s: %d' % item for item in sorted(counts.items()))
+
+
+def program_files(files, dues):
+    """About thirty files for the program itself: named ones, one of each refusal, shuffled ones, and two of 5,000 bytes."""
+    chosen = ['sample', 'a1', 'a4', 'c2', 'lh single', 'lh not single', 'zeros', 'a4 falling', 'half', 'empty', 'widest scatter, 10 cycles, 1', 'longest with 1000 bytes behind', 'rubbish of 4096 bytes']
+    where = named_files(files)
+    picked = [where[name] for name in chosen]
+    for number in range(1, 11):
+        picked.append(next(which for which, due in enumerate(dues) if due.startswith(b'refused %d at ' % number)))
+    shuffles = [which for which, (name, _) in enumerate(files) if name.endswith(', shuffled')]
+    picked += shuffles[:: len(shuffles) // 6]
+    out = [(files[which][0], files[which][1], dues[which]) for which in picked]
+    for name in ('sample', 'longest without its close'):
+        data = files[where[name]][1]
+        long = data + bytes(5000 - len(data))
+        out.append((name + ' filled up to 5000 bytes', long, sheet.sheet(long)))
+    return out
+
+
+def compare_program(run, chosen):
+    """The program `sheet` itself, a file on its standard input."""
+    for name, data, due in chosen:
+        got = run('sheet', data)
+        if got != due:
+            yield 'sheet of file %s: %s' % (name, sheet_difference(got, due))
+
+
+def worked_faults():
+    """The runs worked by hand: the run file has the numbers of the text, and the second program makes the worked sheet of it."""
+    for name in worked_runs.names(FOLDER):
+        data, due = worked_runs.part(FOLDER, name, '.run'), worked_runs.part(FOLDER, name, '.sheet')
+        if data != worked_runs.file_of_text(FOLDER, name):
+            yield 'the run %s does not have the numbers of its text' % name
+        if sheet.sheet(data) != due:
+            yield 'the second program differs from the worked sheet of %s: %s' % (name, sheet_difference(sheet.sheet(data), due))
+
+
+def missing(met, per_index):
+    for number, count in met.items():
+        if not count:
+            yield 'no sheet had refusal %d' % number
+    for name, numbers in DUE_NUMBERS.items():
+        yield from ('no %s was answered with %d' % (name, number) for number in numbers if not per_index[name].get(number))
+
+
+def own_faults(files, dues, runs, due_lines):
+    """What can be held against the second program without any other."""
+    where = named_files(files)
+    yield from figure_faults('the second program', {name: dues[which] for name, which in where.items()}, {name: lines for (name, _), lines in zip(runs, due_lines)})
+    yield from worked_faults()
+
+
+class Material:
+    """The files and runs with what the second program says of them."""
+
+    def __init__(self):
+        benches = Benches()
+        self.files, self.runs = list(make_sheets.files()), list(make_sheets.hand_runs())
+        self.dues = [sheet.sheet(data, benches) for _, data in self.files]
+        self.worked = [benches(run) for _, run in self.runs]
+        self.lines = [run_lines(bench) for bench in self.worked]
+
+    def cases(self):
+        """The files first, in their order, then the runs in theirs, then the files with tight buffers."""
+        out = [file_case(name, data, due) for (name, data), due in zip(self.files, self.dues)]
+        out += [Case('run ' + name, run_request(run), lines) for (name, run), lines in zip(self.runs, self.lines)]
+        return out + list(tight_cases(self.files, self.dues))
+
+    def met(self):
+        return refusals_met(self.dues), numbers_met(self.worked)
+
+
+def compare(run):
+    made = Material()
+    cases, chosen = made.cases(), program_files(made.files, made.dues)
+    printed = run('sheets', b''.join(case.request for case in cases)).decode('ascii', 'replace').split('\n')
+    answers, wrong = compare_cases(cases, printed)
+    if not wrong:
+        count = len(made.files)
+        sheets = {name: printed_sheet(answers[which]) for name, which in named_files(made.files).items()}
+        runs = {name: lines for (name, _), lines in zip(made.runs, answers[count:])}
+        wrong += figure_faults('sheets', sheets, runs)
+    wrong += compare_program(run, chosen)
+    wrong += own_faults(made.files, made.dues, made.runs, made.lines)
+    met, per_index = made.met()
+    wrong += missing(met, per_index)
+    more, told = wrong_sheets.told_apart(made.files, made.dues)
+    first = ['sheets: %d files, %d runs built by hand, %d files by the program itself' % (len(made.files), len(made.runs), len(chosen))]
+    first += ['refusals met on sheets: ' + counts_text(met)]
+    first += ['%s met: %s' % (name, counts_text(per_index[name])) for name in NAMES]
+    return len(cases) + len(chosen), wrong + more, first + told

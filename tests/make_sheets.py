@@ -1,0 +1,354 @@
+"""Makes the named files and the named runs built by hand for the comparison of sheets. Every run of a family goes in as a file and as a run."""
+import random
+
+import make_files
+from make_files import paper_run, random_run, with_point, with_reading
+from second.runfile import CYCLES, M_LIMITS, N_LIMITS, POINTS, SCATTER, X_LIMIT, Y_LIMIT, Run, file_of, framed, point_record, reading_record, travel
+
+FAR = (1, 10**6, 2**40, 2**63 - 1)
+
+
+def run_of(x, up, down):
+    """A run from its inputs and, for each stroke, its cycles; the lowest input comes first on both strokes."""
+    readings = {(s, c, i): y for s, cycles in enumerate((up, down)) for c, row in enumerate(cycles) for i, y in enumerate(row)}
+    return Run(len(x), len(up), dict(enumerate(x)), readings)
+
+
+def one_cycle(x, up, down=None):
+    return run_of(x, [up], [up if down is None else down])
+
+
+def named():
+    """The runs that the paper and the Standard work out, and a few that are worked in the head."""
+    a1, a4 = [3, 1005, 2020, 2960, 3990, 5000], [202, 400, 598, 790, 1010, 1205]
+    yield 'sample', paper_run()
+    yield 'a1', one_cycle([0, 1, 2, 3, 4, 5], a1)
+    yield 'a4', one_cycle([1, 2, 3, 4, 5, 6], a4)
+    yield 'c2', one_cycle([0, 2, 4, 6, 8, 10], [712, 190700, 382640, 575700, 770060, 964580], [1596, 191800, 384420, 577760, 771380, 965740])
+    yield 'lh single', one_cycle([0, 10, 20], [0, 100, 200], [0, 112, 200])
+    yield 'lh not single', one_cycle([0, 10, 20], [0, 96, 200], [0, 108, 200])
+    yield 'zeros', one_cycle([0, 10, 20], [0, 0, 0])
+    # the mirror image of a4: every index is that of a4
+    yield 'a4 falling', one_cycle([1, 2, 3, 4, 5, 6], a4[::-1])
+    # terminal width 1 over 200,000: half a thousandth
+    yield 'half', one_cycle([0, 10, 20], [0, 100001, 200000])
+
+
+def held(value, limit=Y_LIMIT):
+    return max(-limit, min(limit, round(value)))
+
+
+def sensor(make, m, n, gain, bend=0.01, gap=0.004, scatter=0.001):
+    """A sensor of a bench: nearly a line, bent, wider on the down stroke, scattered; the last three as parts of its full span."""
+    step = make.choice((1, 2, 10, 500))
+    x = [i * step + (make.randrange(step // 5 + 1) if make.random() < 0.3 else 0) for i in range(m)]
+    full, zero = abs(gain) * x[-1], make.randint(-500, 500)
+    bend, gap = make.uniform(-bend, bend) * full, make.uniform(0, gap) * full
+    loose = min(scatter * full, SCATTER / 2 - 1)
+
+    def reading(stroke, i):
+        part = x[i] / x[-1]
+        arch = 4 * part * (1 - part)
+        return held(zero + gain * x[i] + bend * arch + stroke * gap * (0.3 + arch) + make.uniform(-loose, loose))
+    up, down = ([[reading(s, i) for i in range(m)] for _ in range(n)] for s in (0, 1))
+    return run_of(x, up, down)
+
+
+def gain_for(make, m):
+    return make.choice((3, 17, 250)) * make.choice((1, 10)) / m
+
+
+def every_size(make):
+    """Each number of points with each number of cycles: a bench sensor, and readings without any rule."""
+    for m in range(M_LIMITS[0], M_LIMITS[1] + 1):
+        for n in range(N_LIMITS[0], N_LIMITS[1] + 1):
+            yield 'bench of %d points and %d cycles' % (m, n), sensor(make, m, n, gain_for(make, m))
+            yield 'random of %d points and %d cycles' % (m, n), random_run(make, m, n)
+
+
+def size(make):
+    # most of a bench's runs are short, and the second program takes long over the long ones
+    return make.choice((3, 3, 4, 5, 5, 6, 7, 9, 11)), make.choice((2, 2, 3, 3, 4, 5, 6, 8, 10))
+
+
+def falling(make):
+    for which in range(200):
+        m, n = size(make)
+        yield 'falling %d' % which, sensor(make, m, n, -gain_for(make, m), make.choice((0, 0.01, 0.2)))
+
+
+def near_linear(make):
+    for which in range(300):
+        m, n = size(make)
+        yield 'near linear %d' % which, sensor(make, m, n, gain_for(make, m), 0.001, 0.0005, 0.0002)
+
+
+def once(make):
+    for which in range(120):
+        m = size(make)[0]
+        gain = gain_for(make, m) * make.choice((1, -1))
+        yield 'one cycle %d' % which, sensor(make, m, 1, gain)
+
+
+def same_each_cycle(x, up, down, n):
+    return run_of(x, [up] * n, [down] * n)
+
+
+def evenly(m):
+    return [10 * i for i in range(m)]
+
+
+def scattered(run, places, spread):
+    """The run with every second cycle moved up at these (stroke, point) places."""
+    moved = {(s, c, i): y + (spread if c % 2 and (s, i) in places else 0) for (s, c, i), y in run.y.items()}
+    return Run(run.m, run.n, run.x, moved)
+
+
+def everywhere(m):
+    return {(s, i) for s in (0, 1) for i in range(m)}
+
+
+def level(make):
+    """Slope zero: of every line, of the terminal line alone, of the best lines alone."""
+    for which in range(40):
+        m, n, v, gap = make.randint(3, 9), make.randint(1, 5), make.randint(-1000, 1000), make.choice((0, 1, 7, 500))
+        flat = same_each_cycle(evenly(m), [v] * m, [v + gap] * m, n)
+        yield 'flat %d' % which, flat
+        yield 'flat and scattered alike %d' % which, scattered(flat, everywhere(m), make.randint(1, 60))
+        arch = [v + 10 * i * (m - 1 - i) for i in range(m)]
+        yield 'arch %d' % which, same_each_cycle(evenly(m), arch, [y + gap for y in arch], n)
+        leaning = [v] + [make.randint(v - 50, v + 50) for _ in range(m - 2)] + [v]
+        yield 'both ends alike %d' % which, same_each_cycle(evenly(m), leaning, leaning, n)
+        saw = [v + gap * (i % 2) for i in range(m)]
+        yield 'saw %d' % which, same_each_cycle(evenly(m), saw, saw, n)
+        tooth = [v] * m
+        tooth[m // 2] += 40
+        yield 'scattered at the ends %d' % which, scattered(same_each_cycle(evenly(m), tooth, tooth, max(n, 2)), {(0, 0), (1, m - 1)}, make.randint(1, 9))
+
+
+def split(m, slope, gaps, make):
+    """Up and down means of a line with a gap at some inputs, and bends of one unit."""
+    middle = [slope * x + make.randint(-1, 1) for x in evenly(m)]
+    up = [v - gaps.get(i, 0) for i, v in enumerate(middle)]
+    return up, [v + gaps.get(i, 0) for i, v in enumerate(middle)]
+
+
+def not_single(make):
+    """A gap at one input, wider than what any chord needs: more than one line. Two such gaps: one line again."""
+    for which in range(90):
+        m, n, slope = make.randint(3, 9), make.randint(1, 4), make.randint(-30, 30)
+        at, other = make.sample(range(m), 2)
+        gap = make.choice((4, 50, 3000))
+        run = same_each_cycle(evenly(m), *split(m, slope, {at: gap}, make), n)
+        yield 'one gap %d' % which, run
+        yield 'two gaps %d' % which, same_each_cycle(evenly(m), *split(m, slope, {at: gap, other: gap}, make), n)
+        # k is the same on both strokes, so that scatter at one input makes a gap there, and scatter at two inputs makes two
+        smooth = same_each_cycle(evenly(m), *split(m, slope, {}, make), n + 1)
+        one, two = {(0, at), (1, at)}, {(0, at), (1, at), (0, other), (1, other)}
+        spread = make.choice((2, 30, 2000))
+        yield 'scatter at one input %d' % which, scattered(smooth, one, spread)
+        yield 'scatter at two inputs %d' % which, scattered(smooth, two, spread)
+        closed = same_each_cycle(evenly(m), *split(m, slope, {at: gap}, make), n + 1)
+        yield 'one gap and scatter elsewhere %d' % which, scattered(closed, {(0, other), (1, other)}, spread)
+
+
+def tiny(make):
+    """Few points and small numbers, where gaps and chords are often equally wide and slopes often zero."""
+    for which in range(500):
+        m, n, most = make.choice((3, 3, 3, 4, 5)), make.choice((1, 1, 2, 3)), make.choice((1, 2, 5, 20))
+        x = sorted(make.sample(range(-m, m + 1), m))
+        up, down = ([[make.randint(-most, most) for _ in range(m)] for _ in range(n)] for _ in (0, 1))
+        yield 'tiny %d' % which, run_of(x, up, down)
+
+
+def between_one_and_many(make):
+    """The paper's two LH cases and what lies between: the middle readings go up by one each time."""
+    for low in range(84, 107):
+        yield 'middle from %d' % low, one_cycle([0, 10, 20], [0, low, 200], [0, low + 12, 200])
+        yield 'middle from %d, crossed' % low, run_of([0, 10, 20], [[0, low + 12, 200]] * 2, [[0, low, 200]] * 2)
+
+
+def spread_out(m):
+    return [-X_LIMIT + 2 * X_LIMIT * i // (m - 1) for i in range(m)]
+
+
+def edge_inputs(make, m):
+    """Inputs at both limits: evenly, or crowded to one end."""
+    return make.choice((spread_out(m), list(range(-X_LIMIT, -X_LIMIT + m - 1)) + [X_LIMIT], [-X_LIMIT] + list(range(X_LIMIT - m + 2, X_LIMIT + 1))))
+
+
+def edge_group(make, n):
+    """n readings at one limit, with all of the scatter that is allowed, or with none."""
+    far = make.choice((-1, 1)) * Y_LIMIT
+    near = far - SCATTER if far > 0 else far + SCATTER
+    kind = make.choice((0, 0, 1, 2))
+    return [far if kind == 0 or (c % 2 if kind == 1 else c) else near for c in range(n)]
+
+
+def extremes(make):
+    """Inputs and readings at their limits, scatter of exactly 10,000 with two and with ten cycles."""
+    for which in range(160):
+        m, n = make.choice((3, 3, 4, 5, 6, 8, 11)), make.choice((1, 2, 2, 10, 10))
+        groups = {(s, i): edge_group(make, n) for s in (0, 1) for i in range(m)}
+        up, down = ([[groups[s, i][c] for i in range(m)] for c in range(n)] for s in (0, 1))
+        yield 'extreme %d' % which, run_of(edge_inputs(make, m), up, down)
+    for n in (2, 10):
+        for up_and_down in (0, 1):
+            # the widest k of all, at every limit point, over a line from limit to limit
+            line = [held(v * 33) for v in spread_out(POINTS)]
+            run = same_each_cycle(spread_out(POINTS), line, line[::-1] if up_and_down else line, n)
+            yield 'widest scatter, %d cycles, %d' % (n, up_and_down), scattered(run, everywhere(POINTS), SCATTER)
+
+
+def large_figures(make):
+    """Near the limits and without common divisors, for the longest fractions; and slopes of next to nothing, for the largest percents."""
+    for which in range(120):
+        m, n = make.choice((3, 3, 4, 5, 7)), make.choice((1, 3, 7, 9, 10, 10))
+        x = sorted(make.sample(range(-X_LIMIT, 60 - X_LIMIT), m // 2) + make.sample(range(X_LIMIT - 60, X_LIMIT + 1), m - m // 2))
+        far = [[make.choice((-1, 1)) * (Y_LIMIT - 100) for _ in range(m)] for _ in (0, 1)]
+        up, down = ([[v + make.randint(-100, 100) for v in far[s]] for _ in range(n)] for s in (0, 1))
+        yield 'large figures %d' % which, run_of(x, up, down)
+    for which in range(30):
+        m, n = make.choice((3, 4, 5)), make.choice((1, 2, 9, 10))
+        peak = [0] + [make.choice((-1, 1)) * Y_LIMIT for _ in range(m - 2)] + [0]
+        run = same_each_cycle(spread_out(m), peak, peak, n)
+        yield 'nearly level %d' % which, with_reading(run, (make.randrange(2), make.randrange(n), make.choice((0, m - 1))), make.choice((-1, 1)))
+
+
+def families(seed=18459):
+    make = random.Random(seed)
+    for family in (every_size, falling, near_linear, once, level, not_single, between_one_and_many, tiny, extremes, large_figures):
+        yield from family(make)
+
+
+def good_runs():
+    """Runs that are accepted, each with its name."""
+    yield from named()
+    yield from families()
+
+
+def shuffled(run, make):
+    middle = travel(run)
+    make.shuffle(middle)
+    return framed(run.m, run.n, middle)
+
+
+def long_files():
+    """Rubbish behind the longest file, and a record too many before its close: 1,837 bytes are as far as a file can be good or cut."""
+    run = sensor(random.Random(1830), POINTS, CYCLES, 100)
+    data, middle = file_of(run), travel(run)
+    for count in (1, 7, 8, 1000, 4096 - len(data)):
+        yield 'longest with %d bytes behind' % count, data + bytes([4]) * count
+    extra = {'a second reading': reading_record(0, 0, 0, 5), 'a reading outside': reading_record(0, 0, POINTS, 5), 'a reading too large': reading_record(1, 9, 10, Y_LIMIT + 1), 'a second point': point_record(4, 5)}
+    for what, record in extra.items():
+        long = framed(run.m, run.n, middle + [record])
+        for length in range(len(data) - 2, len(long) + 1):
+            yield 'longest with %s, cut at %d' % (what, length), long[:length]
+        yield 'longest with %s and rubbish' % what, long + bytes(range(200)) * 5
+    yield 'longest without its close', data[:-1]
+    yield 'rubbish of 4096 bytes', bytes([1, 3, 1]) + bytes([2, 0, 0, 0, 0, 0]) * 682 + b'\0'
+
+
+def limit_runs():
+    """The paper's limits, one run on each side."""
+    for m in (2, 3, 11, 12):
+        rows = [[5 * i for i in range(m)]] * 2
+        yield 'm of %d' % m, run_of(list(range(m)), rows, rows)
+    for x in (30000, 30001):
+        yield 'x of %d' % x, one_cycle([0, 10, x], [0, 1, 2])
+    for gap in (10000, 10001):
+        yield 'scatter of %d' % gap, run_of([0, 10, 20], [[0, 0, 9], [0, gap, 9]], [[0, 0, 9], [0, 0, 9]])
+
+
+def files(seed=2001):
+    """(name, bytes): the good runs in travel order or shuffled, what make_files damages, and long files; none above 4096 bytes."""
+    make = random.Random(seed)
+    for name, run in named():
+        yield name, file_of(run)
+    for which, (name, run) in enumerate(families()):
+        if which % 2:
+            yield name + ', shuffled', shuffled(run, make)
+        else:
+            yield name, file_of(run)
+    yield 'empty', b''
+    for name, run in limit_runs():
+        yield name, file_of(run)
+    yield from long_files()
+    for which, data in enumerate(make_files.files()):
+        if len(data) <= 4096:
+            yield 'damaged %d' % which, data
+
+
+def beyond(limit):
+    """Numbers outside a limit, as far as eight bytes go."""
+    for far in FAR:
+        yield min(limit + far, 2**63 - 1)
+        yield max(-limit - far, -2**63)
+
+
+def rule_breakers(make):
+    """A good run with one rule broken, at every place where it can be."""
+    base = sensor(make, 5, 3, 40)
+    for m, n in ((0, 3), (2, 3), (12, 3), (2**64 - 1, 3), (5, 0), (5, 11), (5, 2**64 - 1), (2**63, 2**63), (0, 0)):
+        yield 'm of %d and n of %d' % (m, n), Run(m, n, base.x, base.y)
+    for i in range(base.m):
+        for v in beyond(X_LIMIT):
+            yield 'input %d of %d' % (i, v), with_point(base, i, v)
+        for v in beyond(Y_LIMIT):
+            place = (make.randrange(2), make.randrange(base.n), i)
+            yield 'reading %s of %d' % (place, v), with_reading(base, place, v)
+        for s in (0, 1):
+            for gap in (SCATTER, SCATTER + 1, -SCATTER, -SCATTER - 1):
+                tied = Run(base.m, base.n, base.x, {**base.y, **{(s, c, i): 0 for c in range(base.n)}})
+                yield 'scatter of %d at stroke %d, point %d' % (gap, s, i), with_reading(tied, (s, i % base.n, i), gap)
+        if i:
+            for down in (0, 1, 5000):
+                yield 'input %d not above input %d by %d' % (i, i - 1, down), with_point(base, i, base.x[i - 1] - down)
+
+
+def two_rules(make):
+    """Two rules broken at once: the paper's order tells which number is due, and the lowest index which place."""
+    base = sensor(make, 5, 3, 40)
+    far_y, far_x = with_reading(base, (1, 2, 1), Y_LIMIT + 1), with_point(base, 3, X_LIMIT + 1)
+    both = with_point(far_y, 3, X_LIMIT + 1)
+    level_pair, loose = with_point(base, 2, base.x[1]), with_reading(base, (0, 1, 0), base.y[0, 0, 0] + SCATTER + 2000)
+    yield 'm and an input', Run(2, 3, far_x.x, far_x.y)
+    yield 'a reading before an input', both
+    yield 'an input before a reading', with_reading(far_x, (0, 0, 4), -Y_LIMIT - 1)
+    yield 'a reading and inputs that do not rise', with_point(far_y, 1, base.x[0])
+    yield 'inputs that do not rise, twice', with_point(level_pair, 4, base.x[1] - 1)
+    yield 'inputs that do not rise and scatter before them', with_reading(level_pair, (0, 1, 0), loose.y[0, 1, 0])
+    yield 'scatter twice', with_reading(loose, (1, 1, 4), base.y[1, 0, 4] - SCATTER - 2000)
+    yield 'scatter of the down stroke first', with_reading(with_reading(base, (0, 1, 3), base.y[0, 0, 3] + SCATTER + 2000), (1, 1, 2), base.y[1, 0, 2] + SCATTER + 2000)
+    yield 'one cycle and an input', with_point(sensor(make, 5, 1, 40), 4, -X_LIMIT - 1)
+
+
+def rubbish_behind(run, make):
+    """The run with numbers beyond every limit at every place beyond its m and n."""
+    far = lambda limit: make.choice(list(beyond(limit)))
+    x = {**{i: far(X_LIMIT) for i in range(POINTS)}, **run.x}
+    y = {**{(s, c, i): far(Y_LIMIT) for s in (0, 1) for c in range(CYCLES) for i in range(POINTS)}, **run.y}
+    return Run(run.m, run.n, x, y)
+
+
+def ignored(make):
+    for which in range(40):
+        m, n = make.randint(3, 10), make.randint(1, 9)
+        yield 'rubbish beyond m and n %d' % which, rubbish_behind(sensor(make, m, n, gain_for(make, m)), make)
+    for name, run in named():
+        yield name + ' with rubbish beyond m and n', rubbish_behind(run, make)
+
+
+def hand_runs(seed=31):
+    """(name, run) of runs built by hand: the good ones, and ones that break each rule."""
+    make = random.Random(seed)
+    yield from good_runs()
+    yield from limit_runs()
+    for family in (rule_breakers, two_rules, ignored):
+        yield from family(make)
+    before = None
+    for which, (run, _) in enumerate(make_files.hand_runs()):
+        # the writer's runs stand once for every length of its buffer
+        if run is not before:
+            yield 'run for the writer %d' % which, run
+        before = run

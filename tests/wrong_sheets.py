@@ -1,0 +1,150 @@
+"""The readings of the paper and the Standard that go wrong, each as a method that differs from the right one in that alone, and the files that tell them apart."""
+from fractions import Fraction
+from math import ceil, floor
+
+import compare_files
+from second import lines
+from second.sheet import DOWN, UP, Bench, sheet
+
+
+class PairedByPlace(Bench):
+    def hysteresis_width(self):
+        paired = Bench(compare_files.paired_by_place(self.data)[2])
+        return Bench.hysteresis_width(paired)
+
+
+class LargestLessSmallestSlope(Bench):
+    def terminal_line(self):
+        """Formula 17 with the smallest output at the first input and the largest at the last."""
+        x, y = self.inputs(), [Fraction(t, 2 * self.run.n) for t in self.totals()]
+        slope = (max(y) - min(y)) / (x[-1] - x[0])
+        offset = min(y) - slope * x[0]
+        return 'line', max(abs(v - slope * at - offset) for at, v in zip(x, y)), slope, offset
+
+
+class LargestLessSmallestSpan(Bench):
+    def full_span(self, slope):
+        return Fraction(max(self.totals()) - min(self.totals()), 2 * self.run.n)
+
+
+class HalvedHysteresis(Bench):
+    def hysteresis_width(self):
+        return Bench.hysteresis_width(self) / 2
+
+
+class RoundedTwice(Bench):
+    def thousandths(self, index):
+        """First to four decimals of a percent, then to three, as 0.825 of A1 came about."""
+        return (floor(index * 1000000 + Fraction(1, 2)) + 5) // 10
+
+
+class Cut(Bench):
+    def thousandths(self, index):
+        return floor(index * 100000)
+
+
+class RoundedUp(Bench):
+    def thousandths(self, index):
+        return ceil(index * 100000)
+
+
+class HalfDownwards(Bench):
+    def thousandths(self, index):
+        return ceil(index * 100000 - Fraction(1, 2))
+
+
+class LeastSquares(Bench):
+    def best_line(self, band):
+        slope, offset = lines.least_squares(band)
+        values = [(x, Fraction(v, band.d)) for side in (band.low, band.high) for x, v in zip(band.x, side)]
+        return 'line', max(abs(v - slope * x - offset) for x, v in values), slope, offset
+
+
+class ShiftedTerminal(Bench):
+    def best_line(self, band):
+        """The slope from the middle of the first input's values to the middle of the last one's, moved to the least width."""
+        rise = band.low[-1] + band.high[-1] - band.low[0] - band.high[0]
+        slope = Fraction(rise, 2 * band.d * (band.x[-1] - band.x[0]))
+        width, offset = lines.at_slope(band, slope)
+        return 'line', width, slope, offset
+
+
+class DividedByN(Bench):
+    def bessel_divisor(self):
+        return self.run.n
+
+
+class LargestLimitEverywhere(Bench):
+    def limits(self, stroke):
+        return [max(self.limit(s, i) for s in (UP, DOWN) for i in range(self.run.m))] * self.run.m
+
+
+class FirstCycleAlone(Bench):
+    def group(self, stroke, i):
+        return [self.run.y.get((stroke, 0, i), 0)] * self.run.n
+
+
+# What is read wrongly, the method, and the wrong figure it is known for, if any: the file, the line counted from 0, and that line's last field.
+WRONG = [
+    ('pairing the jth up reading of the file with the jth down reading', PairedByPlace, None),
+    ('a terminal slope from the largest less the smallest output', LargestLessSmallestSlope, ('a4 falling', 1, None)),
+    ('a full-span output of the largest less the smallest output', LargestLessSmallestSpan, None),
+    ('half the hysteresis', HalvedHysteresis, ('c2', 4, '0.107')),
+    ('rounding twice', RoundedTwice, ('a1', 1, '0.825')),
+    ('rounding up', RoundedUp, ('a1', 1, '0.825')),
+    ('cutting the percent', Cut, None),
+    ('rounding a half downwards', HalfDownwards, ('half', 1, '0.000')),
+    ('the least-squares line for the best one', LeastSquares, None),
+    ('the shifted terminal line for the best one', ShiftedTerminal, None),
+    ("dividing by n in Bessel's formula", DividedByN, None),
+    ('the largest k at every limit point', LargestLimitEverywhere, None),
+    ('the first cycle for all cycles', FirstCycleAlone, None),
+]
+
+
+def lines_of(sheet_bytes):
+    return sheet_bytes.decode('ascii').split('\n')
+
+
+def sentence(what, name, right, other):
+    """The first line at which two sheets of a file differ, in words."""
+    at, due, got = next((at, a, b) for at, (a, b) in enumerate(zip(lines_of(right), lines_of(other)), 1) if a != b)
+    return '%s differs at file %s, line %d: %r, where %r is due' % (what, name, at, got, due)
+
+
+def first_file(method, files, dues):
+    """(name, right sheet, wrong sheet) of the first file that tells a wrong method apart, or None."""
+    for (name, data), due in zip(files, dues):
+        other = sheet(data, method)
+        if other != due:
+            return name, due, other
+    return None
+
+
+def misprint_fault(what, method, printed, by_name):
+    """Holds a wrong method to the wrong figure that it is known for: a sentence if it has another."""
+    name, at, figure = printed
+    data, due = by_name[name]
+    right, other = lines_of(due)[at], lines_of(sheet(data, method))[at]
+    if right == other or figure is not None and other.split(' ')[-1] != figure:
+        return '%s gives %r at file %s, where %s is known of it' % (what, other, name, figure or 'another line')
+    return None
+
+
+def told_apart(files, dues):
+    """What no file tells from the rule, and for each wrong method the first file at which its sheet differs, and the file it is known by."""
+    wrong, told = [], []
+    by_name = {name: (data, due) for (name, data), due in zip(files, dues)}
+    for what, method, printed in WRONG:
+        found = first_file(method, files, dues)
+        if found is None:
+            wrong.append('no file tells %s from the rule' % what)
+            continue
+        told.append(sentence(what, *found))
+        fault = misprint_fault(what, method, printed, by_name) if printed else None
+        if fault:
+            wrong.append(fault)
+        elif printed and printed[0] != found[0]:
+            data, due = by_name[printed[0]]
+            told.append(sentence(what, printed[0], due, sheet(data, method)))
+    return wrong, told
