@@ -6,7 +6,6 @@ use lib.Signed.{_≤ℤ_}
 use Rattle.exact.specs.Value.{Made}
 use Rattle.exact.specs.Rounding.{Nearest}
 use Rattle.exact.specs.declared.Fraction.{Fraction}
-use Rattle.run.specs.Checked.{Checked}
 use Rattle.run.specs.declared.Run.{Run}
 use Rattle.groups.specs.Sums.{limit}
 use Rattle.band.specs.Line.{Points}

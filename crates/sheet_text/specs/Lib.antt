@@ -7,3 +7,4 @@ pub mod Longest
 pub mod SheetLaws
 pub mod CopyLaws
 pub mod Vectors
+pub mod Once
