@@ -1,0 +1,142 @@
+-- Demand 2. "Each accepted run gives exactly the means, lines and indices of the Standard, as fractions in lowest terms. The independent line has the least largest deviation. Writing a run and reading it back gives the same run; reading a file and writing it gives the same records in travel order."
+--
+-- What it says: of a run that no check refuses, every mean is the sum over all n cycles over its unit; an index that is accepted has a line and a width that `Fits` names for it, and is that width over the full-span output of that line; all fractions are in lowest terms. The reported independent line keeps every mean within the reported width, and no line of fractions keeps them within less. That these answers exist and are the only ones is demand 1.
+-- What it does not say: that a sensor's readings are right, or that a file holds the readings that were taken.
+use mathlib.Core.Path.{_≡_, refl, sym, ap, _∙_}
+use mathlib.Core.List.{List}
+use Prim.Native.Nat.{ℕ, zero, suc, _*_, _-_, _<_}
+use native.Mathlib.Nat.{mul-pos}
+use native.Mathlib.Omega.{arith}
+use lib.IntN.{ℤ, pos, negsuc, natAbs}
+use lib.ListN.{getD}
+use Rattle.whole.specs.Sign.{lt-sign, nat-positive}
+use Rattle.exact.specs.Value.{Worth, Lowest, Made, nought}
+use Rattle.exact.specs.Rounding.{Nearest}
+use Rattle.exact.specs.declared.Fraction.{Fraction}
+use Rattle.run.specs.Limits.{verdict}
+use Rattle.run.specs.Checked.{Checked, checked, verdict-fine}
+use Rattle.run.specs.declared.Run.{Run}
+use Rattle.groups.specs.Sums.{up-sum, down-sum, both-sum}
+use Rattle.reader.specs.Meaning.{meaning}
+use Rattle.writer.specs.File.{file}
+use Rattle.runfile.specs.Trimmed.{trimmed}
+use Rattle.runfile.specs.Trimmed as read
+use Rattle.runfile.specs.Back.{TrimmedOf, trip, trimmed-is}
+use Rattle.runfile.specs.RecordLaws.{Bytes}
+use Rattle.runfile.specs.Accepted.{Rewritten, rewritten}
+use Rattle.averages.specs.Averages as averages
+use Rattle.averages.specs.Averages.{AveragesDue}
+use Rattle.averages.specs.declared.Averages.{Averages}
+use Rattle.band.specs.Line.{Line, All}
+use Rattle.band.specs.Same.{same-within}
+use Rattle.fit.specs.Scaled.{within-alike, least-alike, single-alike}
+use Rattle.indices.specs.Through.{means}
+use Rattle.indices.specs.Due.{Best, Fits, span, Due, no-run, one-cycle, given, several, one-line}
+use Rattle.indices.specs.Admitted.{proper-means}
+use Rattle.indices.specs.declared.Answer.{Answer}
+use Rattle.indices.specs.declared.Index.{Index}
+use Rattle.indices.specs.declared.Index.the-variants as kinds
+use Rattle.promises.specs.Reported.{Reports}
+use Rattle.promises.specs.ReportedLaws.{made-alike, reported}
+
+-- f is n/d, in lowest terms
+pub record Is (n : ℤ) (d : ℕ) (f : Fraction) : Type 0 where
+  pub lowest : Lowest f
+  pub worth : Worth f n d
+
+-- formulas 1 to 3 at a point
+pub record MeansAt (r : Run) (a : Averages) (i : ℕ) : Type 0 where
+  pub up : Is (up-sum r i) (r .n) (getD (a .up) i nought)
+  pub down : Is (down-sum r i) (r .n) (getD (a .down) i nought)
+  pub both : Is (both-sum r i) (2 * r .n) (getD (a .both) i nought)
+
+-- an index that is accepted: its line, its width w/z, and the index, width over full-span output
+pub record Accepted (which : Index) (r : Run) (a : Answer) : Type 0 where
+  pub line : Line
+  pub w : ℕ
+  pub z : ℕ
+  pub fits : Fits which r line w z
+  pub width : Is (pos w) z (a .width)
+  pub slope : Is (line .a) (line .q) (a .slope)
+  pub offset : Is (line .b) (line .q) (a .offset)
+  pub output : 0 < natAbs (line .a) * span r
+  pub index : Is (pos (w * line .q)) (z * (natAbs (line .a) * span r)) (a .index)
+  pub thousandths : Nearest (100000 * natAbs (a .index .num)) (a .index .den) (a .thousandths)
+
+-- of a run that no check refuses
+pub record Standard (r : Run) : Type 0 where
+  pub averages : (a : Averages) → AveragesDue r a → (i : ℕ) → i < r .m → MeansAt r a i
+  pub index : (which : Index) (a : Answer) → Due which r a → a .number ≡ 0 → Accepted which r a
+  -- the reported independent line has the least largest deviation, under 11 too
+  pub independent : (a : Answer) → Due kinds.Independent r a → (L : Line) → Reports a L → Best All (means r) L (natAbs (a .width .num)) (a .width .den)
+  -- written and read back it is the same run, with zeros beyond m and n
+  pub back : meaning (file r) ≡ read.given (trimmed r)
+  pub same : TrimmedOf r (trimmed r)
+
+pub record Demand2 : Type 0 where
+  pub run : (r : Run) → verdict r .number ≡ 0 → Standard r
+  -- a byte string that is accepted as the run r: writing r gives the same records in travel order
+  pub rewritten : (s : List ℕ) (r : Run) → Bytes s → meaning s ≡ read.given r → Rewritten s r
+
+-- ---- proof
+made-is : {n : ℤ} {d : ℕ} {f : Fraction} → 0 < d → Made n d f → Is n d f
+made-is some m = record { lowest = m .lowest; worth = m .worth some }
+
+module _ (r : Run) (e : verdict r .number ≡ 0) where
+  c : Checked r
+  c = checked r e
+
+  the-means : (a : Averages) → AveragesDue r a → (i : ℕ) → i < r .m → MeansAt r a i
+  the-means a (averages.no-run n _) i h = absurd (n e)
+  the-means a (averages.told _ _ _ u d b) i h =
+      let l : i < 11 = omega (arith, c .m-most) in
+      let n : 0 < r .n = c .n-least in
+      let t : 0 < 2 * r .n = omega arith in
+      record { up = made-is n (u .each i l .mean h); down = made-is n (d .each i l .mean h); both = made-is t (b .each i l .mean h) }
+
+  -- the last input is above the first
+  span-some : 0 < span r
+  span-some = nat-positive (lt-sign (proper-means c .rise 0 (r .m - 1) (omega (arith, c .m-least)) (omega (arith, c .m-least))))
+
+  output-some : (z : ℤ) → (z ≡ pos 0 → ⊥) → 0 < natAbs z * span r
+  output-some (pos zero) n = absurd (n refl)
+  output-some (pos (suc k)) n = mul-pos (omega arith) span-some
+  output-some (negsuc k) n = mul-pos (omega arith) span-some
+
+  the-index : (which : Index) (a : Answer) → Due which r a → a .number ≡ 0 → Accepted which r a
+  the-index which a (no-run n _) number = absurd (n e)
+  the-index which a (one-cycle _ _ q) number = let z : _≡_ {A = ℕ} 13 0 = sym (ap (λ (a : Answer). a .number) q) ∙ number in absurd (omega arith)
+  the-index which a (given _ _ (several w z _ _ _ q)) number = let z : _≡_ {A = ℕ} 12 0 = sym (ap (λ (a : Answer). a .number) q) ∙ number in absurd (omega arith)
+  the-index which a (given _ _ (one-line L w z some fits s)) number =
+      let out = output-some (L .a) (λ flat. let z : _≡_ {A = ℕ} 11 0 = sym (s .flat flat) ∙ number in absurd (omega arith)) in
+      record {
+        line = L;
+        w = w;
+        z = z;
+        fits = fits;
+        width = made-is some (s .width);
+        slope = made-is (L .some) (s .slope);
+        offset = made-is (L .some) (s .offset);
+        output = out;
+        index = made-is (mul-pos some out) (s .index);
+        thousandths = s .thousandths;
+      }
+
+  the-independent : (a : Answer) → Due kinds.Independent r a → (L : Line) → Reports a L → Best All (means r) L (natAbs (a .width .num)) (a .width .den)
+  the-independent a (no-run n _) L p = absurd (n e)
+  the-independent a (one-cycle _ o _) L p = absurd (o .0)
+  the-independent a (given _ _ (several w z _ m _ _)) L p = absurd m
+  the-independent a (given _ _ (one-line M w z some best s)) L p =
+      let alike = made-alike some (s .width) in
+      record {
+        member = tt;
+        reached = within-alike alike (same-within (reported s p) (best .reached));
+        least = least-alike alike (best .least);
+        single = single-alike alike (best .single);
+      }
+
+pub demand-2 : Demand2
+demand-2 = record {
+  run = λ r e. let v = verdict-fine r e in record { averages = the-means r e; index = the-index r e; independent = the-independent r e; back = trip r v; same = trimmed-is r v };
+  rewritten = rewritten;
+}

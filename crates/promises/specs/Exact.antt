@@ -1,0 +1,53 @@
+-- Exact limit points, and what it means that a line keeps them (the paper: "The exact limit points of demand 3 have the root itself for k"). Definitions only.
+-- A root need be no fraction. So it is known by the fractions t/q that it is at most and those that it is at least, and that is told by comparing squares of whole numbers.
+use mathlib.Core.Logic.{_⊎_}
+use Prim.Native.Nat.{ℕ, _*_, _-_, _<_, _≤_}
+use lib.IntN.{ℤ, pos, negℤ, _+ℤ_, _-ℤ_, _*ℤ_}
+use lib.Signed.{_≤ℤ_}
+use Rattle.run.specs.Run.{input}
+use Rattle.run.specs.declared.Run.{Run}
+use Rattle.groups.specs.Sums.{up-sum, down-sum, bessel, factor}
+use Rattle.band.specs.Line.{Line, off}
+use Rattle.indices.specs.Through.{strokes}
+
+-- a limit from 0 up: the fractions t/q, q above zero, that it is at most and at least
+pub record Cut : Type 1 where
+  pub AtMost : (t : ℤ) → (q : ℕ) → Type 0
+  pub AtLeast : (t : ℤ) → (q : ℕ) → Type 0
+
+-- the number from 0 up whose square times f is e. A negative fraction is never at least it
+abbrev pub root : (e : ℤ) → (f : ℕ) → Cut
+root e f = record { AtMost = λ t q. (pos 0 ≤ℤ t) × ((e *ℤ pos (q * q)) ≤ℤ (t *ℤ t *ℤ pos f)); AtLeast = λ t q. (t ≤ℤ pos 0) ⊎ ((t *ℤ t *ℤ pos f) ≤ℤ (e *ℤ pos (q * q))) }
+
+-- k is the limit rounded up: the smallest whole number that it is at most
+pub record RoundedUp (A : Cut) (k : ℕ) : Type 0 where
+  pub up : A .AtMost (pos k) 1
+  pub first : (j : ℕ) → A .AtMost (pos j) 1 → k ≤ j
+
+-- the exact limit of a group, in sum units: its square times 1,000,000·(n - 1) is C·C·n·Q
+abbrev pub exact-limit : Run → (stroke point : ℕ) → Cut
+exact-limit r s i = root (pos (factor (r .n) * factor (r .n) * r .n) *ℤ bessel r s i) (1000000 * (r .n - 1))
+
+-- the limit lies within w/z of g/q: it is at most g/q + w/z and at least g/q - w/z
+pub record Near (A : Cut) (g : ℤ) (q : ℕ) (w : ℤ) (z : ℕ) : Type 0 where
+  pub top : A .AtMost (pos z *ℤ g +ℤ w *ℤ pos q) (z * q)
+  pub bottom : A .AtLeast (pos z *ℤ g -ℤ w *ℤ pos q) (z * q)
+
+-- the limit lies closer than w/z to g/q: it is not as much as g/q + w/z and not as little as g/q - w/z
+pub record Nearer (A : Cut) (g : ℤ) (q : ℕ) (w : ℤ) (z : ℕ) : Type 0 where
+  pub top : A .AtLeast (pos z *ℤ g +ℤ w *ℤ pos q) (z * q) → ⊥
+  pub bottom : A .AtMost (pos z *ℤ g -ℤ w *ℤ pos q) (z * q) → ⊥
+
+-- how far U or D lies above the line, in sum units, times q
+abbrev pub above : Run → Line → (v : ℤ) → (point : ℕ) → ℤ
+above r L v i = off (strokes r) L (input r i) v
+
+-- the line keeps every limit point within w/z sum units: U less its limit, which lies within w/z of how far U is above the line, and D more its limit, which lies within w/z of how far D is below it
+pub record Keeps (r : Run) (limit : ℕ → ℕ → Cut) (L : Line) (w : ℤ) (z : ℕ) : Type 0 where
+  pub up : (i : ℕ) → i < r .m → Near (limit 0 i) (above r L (up-sum r i) i) (L .q) w z
+  pub down : (i : ℕ) → i < r .m → Near (limit 1 i) (negℤ (above r L (down-sum r i) i)) (L .q) w z
+
+-- closer than w/z sum units
+pub record KeepsCloser (r : Run) (limit : ℕ → ℕ → Cut) (L : Line) (w : ℤ) (z : ℕ) : Type 0 where
+  pub up : (i : ℕ) → i < r .m → Nearer (limit 0 i) (above r L (up-sum r i) i) (L .q) w z
+  pub down : (i : ℕ) → i < r .m → Nearer (limit 1 i) (negℤ (above r L (down-sum r i) i)) (L .q) w z

@@ -1,0 +1,11 @@
+pub mod Exact
+pub mod Reported
+pub mod ReportedLaws
+pub mod Figures
+pub mod Cuts
+pub mod Points
+pub mod Roots
+pub mod Rounded
+pub mod Demand1
+pub mod Demand2
+pub mod Demand3

@@ -1,0 +1,1 @@
+// No code: the promises are theorems over the definitions, in specs/.
