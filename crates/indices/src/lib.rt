@@ -10,7 +10,7 @@ ghost use Rattle.run.specs.Checked.{Checked};
 ghost use Rattle.indices.specs.Due.{refused, only-width, span, scatters, OneCycle, Given, Due};
 ghost use Rattle.indices.specs.Parts.{Cycles, Measured, best-index, wide-index, LineParts, Tellable, OwnWidth, OwnReady, OtherWidth, OtherReady};
 
-pub mod bands;
+mod bands;
 
 use bands::Through;
 use bands::Width;

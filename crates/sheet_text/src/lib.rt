@@ -7,7 +7,7 @@ ghost use Rattle.sheet_text.specs.Digits.{decimal, fraction, percent};
 ghost use Rattle.sheet_text.specs.Sheet.{space, refused-word, name, head-line, index-line, last-line, refused-line, SheetDue, PrintDue};
 ghost use Rattle.sheet_text.specs.Grown.{text, grown, AnswerLine, RunText};
 
-pub mod text;
+mod text;
 
 use indices::Answer;
 use indices::Index;
