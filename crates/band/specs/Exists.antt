@@ -46,5 +46,9 @@ module _ {g : Band} (a : Admitted g) where
   best-of zero = (levelled g (One 0), best-start (is-levelled g (One 0) (omega (arith, a .three))))
   best-of (suc k) = next k (best-of k)
 
+  -- what the search finds
+  pub some-best : (t : Top) × BestOf g 2673 t
+  some-best = best-of 2673
+
   pub some-greatest : (c : C.Candidate) × Greatest (points g) c
-  some-greatest = let r = best-of 2673 in (shown (r .0 .which), found a (r .1))
+  some-greatest = (shown (some-best .0 .which), found a (some-best .1))

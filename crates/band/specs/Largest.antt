@@ -5,7 +5,7 @@ use Prim.Native.Nat.{ℕ, _*_, _<_, _≤_}
 use native.Mathlib.Nat.{mul-le-mul-right, le-of-mul-le-mul-left, mul-pos}
 use native.Mathlib.Omega.{arith}
 use lib.IntN.{natAbs}
-use Rattle.band.specs.Line.{Line, Points, Proper, off, Within, Largest, Least}
+use Rattle.band.specs.Line.{Line, Points, Proper, off, Within, Largest}
 
 -- the value at some input lies as far as w/z
 pub record Reached (P : Points) (L : Line) (w z : ℕ) : Type 0 where
@@ -29,7 +29,3 @@ largest-by {P} {L} {w} {z} proper some W r = record { some = some; within = W; l
 
 pub largest-same : {P : Points} {L : Line} {w z w′ z′ : ℕ} → Largest P L w z → Largest P L w′ z′ → w * z′ ≡ w′ * z
 largest-same {w = w} {z} {w′} {z′} M N = omega (arith, M .least w′ z′ (N .some) (N .within), N .least w z (M .some) (M .within))
-
--- a line of the family F within F's least deviation has that as its largest
-pub least-largest : {F : Line → Type 0} {P : Points} {w z : ℕ} → Least F P w z → (L : Line) → F L → Within P L w z → Largest P L w z
-least-largest M L f W = record { some = M .some; within = W; least = λ w′ z′ h W′. M .least L w′ z′ f h W′ }

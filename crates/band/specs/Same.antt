@@ -1,5 +1,5 @@
 -- When two lines are one: `Same` is an equivalence, a line is fixed by its values at two inputs, and no statement of `Line` depends on how a line is written.
-use mathlib.Core.Path.{_≡_, refl, sym, ap, ap₂, _∙_}
+use mathlib.Core.Path.{_≡_, sym, ap, ap₂, _∙_}
 use mathlib.Core.List.{_∷_, []}
 use Prim.Native.Nat.{ℕ, _*_, _<_, _≤_}
 use native.Mathlib.Nat.{mul-le-mul-right, le-of-mul-le-mul-left}
@@ -12,9 +12,6 @@ use Rattle.whole.specs.Sign.{Positive, lt-sign, positive-nat, positive-mul, can
 use Rattle.whole.specs.Size.{size-product}
 use Rattle.band.specs.Line.{Line, Points, off, Within, Least, Same, Single, Several}
 use Rattle.band.specs.Seen.{offE}
-
-pub same-refl : (L : Line) → Same L L
-same-refl L = record { slope = refl; offset = refl }
 
 pub same-sym : {L M : Line} → Same L M → Same M L
 same-sym e = record { slope = sym (e .slope); offset = sym (e .offset) }

@@ -19,7 +19,7 @@ pub gcd-same : {a b g h : ℕ} → Gcd a b g → Gcd a b h → g ≡ h
 gcd-same {a} {b} {g} {h} p q = N.dvd-antisymm (q .all g (p .left) (p .right)) (p .all h (q .left) (q .right))
 
 -- there is one, as `more` steps find
-gcd-within : (more a b : ℕ) → b < more → (g : ℕ) × Gcd a b g
+pub gcd-within : (more a b : ℕ) → b < more → (g : ℕ) × Gcd a b g
 gcd-within zero a b h = let e : ⊥ = omega arith in absurd e
 gcd-within (suc more) a zero h = (a, gcd-zero a)
 gcd-within (suc more) a (suc b) h =

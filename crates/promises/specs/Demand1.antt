@@ -2,24 +2,33 @@
 --
 -- What it says: for each byte string, and for each run and index, there is exactly one answer that has its condition. The conditions stand row by row in `Because` (runfile) and `Due` (indices), each saying that none before it holds. The numbers are those of the paper's table, the fields under a refusal are the fixed ones, and a refused write or sheet leaves the buffer as it was.
 -- What it does not say: what a program reads and prints. No contract can; the comparison with the second program holds it.
-use mathlib.Core.Path.{_≡_}
-use mathlib.Core.List.{List, [], _∷_}
-use mathlib.Core.Logic.{_⊎_}
-use Prim.Native.Nat.{ℕ, _≤_}
+use mathlib.Core.Path.{_≡_, refl, sym, ap, _∙_, subst}
+use mathlib.Core.List.{List, [], _∷_, _++_}
+use mathlib.Core.Logic.{_⊎_, inl, inr}
+use Prim.Native.Nat.{ℕ, _<_, _≤_}
+use native.Mathlib.Decide.{decLt}
+use native.Mathlib.Omega.{arith}
+use lib.ListN.{length, drop}
 use Rattle.exact.specs.Value.{nought}
 use Rattle.run.specs.Run.{zeros}
+use Rattle.run.specs.Limits.{verdict}
 use Rattle.run.specs.declared.Run.{Run}
 use Rattle.reader.specs.Meaning.{meaning}
-use Rattle.reader.specs.declared.Answer as reader
 use Rattle.writer.specs.File.{written, buffer-after}
 use Rattle.runfile.specs.Because.{Because}
+use Rattle.runfile.specs.Sentences.{sentence, only}
 use Rattle.averages.specs.Averages.{AveragesDue}
-use Rattle.averages.specs.declared.Averages.{Averages}
-use Rattle.indices.specs.Due.{refused, only-width, Due}
+use Rattle.averages.specs.Once.{one-averages}
+use Rattle.indices.specs.Due.{refused, only-width, Due, no-run, one-cycle, given, several, one-line}
+use Rattle.indices.specs.Once.{one-answer}
 use Rattle.indices.specs.declared.Answer.{Answer}
 use Rattle.indices.specs.declared.Index.{Index}
-use Rattle.sheet_text.specs.Sheet.{SheetDue, PrintDue}
+use Rattle.sheet_text.specs.Sheet.{SheetDue, PrintDue, fits, short}
+use Rattle.sheet_text.specs.Once.{one-sheet, one-print}
 use Rattle.sheet_text.specs.declared.Printed.{Printed}
+use Rattle.promises.specs.Exists.{some-answer}
+use Rattle.promises.specs.Sheets.{some-averages, some-sheet}
+use Rattle.promises.specs.Numbers.{verdict-ind, read, stands-ind, flat-index, write-ind, write-none}
 
 -- exactly one has the property
 pub record ExactlyOne {A : Type 0} (P : A → Type 0) : Type 0 where
@@ -62,3 +71,74 @@ pub record Answered : Type 0 where
   pub sheet : (s : List ℕ) → ExactlyOne (SheetDue s)
   pub print : (s before : List ℕ) → ExactlyOne (λ (p : Print). PrintDue s before (p .buffer) (p .answer))
   pub print-refused : (s before after : List ℕ) (q : Printed) → PrintDue s before after q → (q .number ≡ 0 → ⊥) → (q ≡ record { number = 14; len = 0 }) × (after ≡ before)
+
+-- ---- it holds
+-- the number of an index
+abbrev IndexNumber : ℕ → Type 0
+IndexNumber n = Among n (0 ∷ 3 ∷ 5 ∷ 9 ∷ 10 ∷ 11 ∷ 12 ∷ 13 ∷ [])
+
+number-among : {which : Index} {r : Run} {a : Answer} → Due which r a → IndexNumber (a .number)
+number-among {r = r} (no-run n e) =
+    subst IndexNumber (sym (ap (λ (a : Answer). a .number) e)) (verdict-ind r IndexNumber (inl refl) (inr (inl refl)) (inr (inr (inl refl))) (inr (inr (inr (inl refl)))) (inr (inr (inr (inr (inl refl))))))
+number-among (one-cycle v o e) = inr (inr (inr (inr (inr (inr (inr (inl (ap (λ (a : Answer). a .number) e))))))))
+number-among (given v o (several w z h m f e)) = inr (inr (inr (inr (inr (inr (inl (ap (λ (a : Answer). a .number) e)))))))
+number-among (given v o (one-line L w z h f s)) = stands-ind s IndexNumber (inl refl) (inr (inr (inr (inr (inr (inl refl))))))
+
+-- the fields of an index
+fixed : {which : Index} {r : Run} {a : Answer} → Due which r a → Fixed a
+fixed {r = r} {a} (no-run n e) =
+    let k : a .number ≡ verdict r .number = ap (λ (a : Answer). a .number) e in
+    let most : verdict r .number ≤ 10 = verdict-ind r (λ n. n ≤ 10) (omega arith) (omega arith) (omega arith) (omega arith) (omega arith) in
+    record {
+      accepted = λ i. absurd (n (sym k ∙ i));
+      flat = λ i. absurd (omega arith);
+      several = λ i. absurd (omega arith);
+      one-cycle = λ i. absurd (omega arith);
+      no-run = λ _ _. e ∙ sym (ap (λ (a : Answer). refused (a .number) (a .place)) e);
+    }
+fixed {a = a} (one-cycle v o e) =
+    let k : a .number ≡ 13 = ap (λ (a : Answer). a .number) e in
+    record { accepted = λ i. absurd (omega arith); flat = λ i. absurd (omega arith); several = λ i. absurd (omega arith); one-cycle = λ _. e; no-run = λ h _. absurd (omega arith) }
+fixed {a = a} (given v o (several w z h m f e)) =
+    let k : a .number ≡ 12 = ap (λ (a : Answer). a .number) e in
+    record { accepted = λ i. absurd (omega arith); flat = λ i. absurd (omega arith); several = λ _. e; one-cycle = λ i. absurd (omega arith); no-run = λ h _. absurd (omega arith) }
+fixed {a = a} (given v o (one-line L w z h f s)) =
+    record {
+      accepted = λ _. s .place;
+      flat = λ i. (s .place, flat-index s i .0, flat-index s i .1);
+      several = λ i. absurd (stands-ind s (λ n. n ≡ 12 → ⊥) (λ e. omega arith) (λ e. omega arith) i);
+      one-cycle = λ i. absurd (stands-ind s (λ n. n ≡ 13 → ⊥) (λ e. omega arith) (λ e. omega arith) i);
+      no-run = λ i n. absurd (stands-ind s (λ n. n ≤ 10 → (n ≡ 0 → ⊥) → ⊥) (λ _ n. n refl) (λ i _. omega arith) i n);
+    }
+
+-- a lent buffer
+some-print : (s before : List ℕ) → (p : Print) × PrintDue s before (p .buffer) (p .answer)
+some-print s before = go (decLt (length before) (length t))
+  where
+    t : List ℕ
+    t = some-sheet s .0
+
+    go : Dec (length before < length t) → (p : Print) × PrintDue s before (p .buffer) (p .answer)
+    go (yes h) = (record { answer = record { number = 14; len = 0 }; buffer = before }, short t (some-sheet s .1) h refl refl)
+    go (no h) = (record { answer = record { number = 0; len = length t }; buffer = t ++ drop (length t) before }, fits t (some-sheet s .1) (omega arith) refl refl)
+
+refused-print : {s before after : List ℕ} {q : Printed} → PrintDue s before after q → (q .number ≡ 0 → ⊥) → (q ≡ record { number = 14; len = 0 }) × (after ≡ before)
+refused-print (fits t a l e f) n = absurd (n (ap (λ (q : Printed). q .number) e))
+refused-print (short t a l e f) n = (e, f)
+
+pub demand-1 : Answered
+demand-1 = record {
+  file = λ s. record { one = meaning s; is = sentence s; only = λ a b. only b };
+  file-number = λ s. read (sentence s) .number;
+  file-refused = λ s. read (sentence s) .run;
+  index = λ which r. let d = some-answer which r in record { one = d .0; is = d .1; only = λ a e. one-answer which r e (d .1) };
+  index-number = λ which r a. number-among;
+  index-fixed = λ which r a. fixed;
+  averages = λ r. let d = some-averages r in record { one = d .0; is = d .1; only = λ a e. one-averages e (d .1) };
+  write-number = λ r buffer.
+      write-ind r buffer (λ n. Among n (0 ∷ 3 ∷ 5 ∷ 9 ∷ 10 ∷ 14 ∷ [])) (inl refl) (inr (inl refl)) (inr (inr (inl refl))) (inr (inr (inr (inl refl)))) (inr (inr (inr (inr (inl refl))))) (inr (inr (inr (inr (inr (inl refl))))));
+  write-refused = write-none;
+  sheet = λ s. let d = some-sheet s in record { one = d .0; is = d .1; only = λ t e. one-sheet e (d .1) };
+  print = λ s before. let d = some-print s before in record { one = d .0; is = d .1; only = λ p e. let same = one-print e (d .1) in λ i. record { answer = same .answer i; buffer = same .buffer i } };
+  print-refused = λ s before after q. refused-print;
+}

@@ -9,7 +9,7 @@ use Rattle.indices.specs.declared.Answer.{Answer}
 use Rattle.indices.specs.declared.Index.{Index}
 use Rattle.indices.specs.declared.Index.the-variants as index
 use Rattle.sheet_text.specs.Digits.{digits, decimal, fraction, percent}
-use Rattle.sheet_text.specs.Sheet.{head-line, index-line, last-line, lines, refused-line}
+use Rattle.sheet_text.specs.Sheet.{index-line, last-line, lines, refused-line}
 
 over : ℤ → ℕ → Fraction
 over n d = record { num = n; den = d }

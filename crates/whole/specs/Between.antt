@@ -2,10 +2,10 @@
 use mathlib.Core.Bool.{Bool, _&&_}
 use Prim.Native.Nat.{ℕ, zero, suc, _≤_}
 use native.Mathlib.Omega.{arith}
-use lib.Dec.{T, leb→le, le→leb}
+use lib.Dec.{T, leb→le}
 use lib.IntN.{ℤ, pos, negsuc, negℤ, natAbs}
 use lib.Signed.{leZ}
-use mir.Facts.{and-yes, yes-and}
+use mir.Facts.{and-yes}
 
 abbrev pub between : ℕ → ℤ → Bool
 between k z = leZ (negℤ (pos k)) z && leZ z (pos k)
@@ -14,9 +14,3 @@ pub between-size : (k : ℕ) (z : ℤ) → T (between k z) → natAbs z ≤ k
 between-size k (pos n) t = leb→le n k (and-yes (leZ (negℤ (pos k)) (pos n)) (leZ (pos n) (pos k)) t .1)
 between-size zero (negsuc n) t = absurd (and-yes (leZ (pos 0) (negsuc n)) (leZ (negsuc n) (pos 0)) t .0)
 between-size (suc k) (negsuc n) t = omega (arith, leb→le n k (and-yes (leZ (negsuc k) (negsuc n)) (leZ (negsuc n) (pos (suc k))) t .0))
-
-pub size-between : (k : ℕ) (z : ℤ) → natAbs z ≤ k → T (between k z)
-size-between zero (pos n) h = yes-and (leZ (pos 0) (pos n)) (leZ (pos n) (pos 0)) (le→leb 0 n (omega arith)) (le→leb n 0 h)
-size-between (suc k) (pos n) h = yes-and (leZ (negsuc k) (pos n)) (leZ (pos n) (pos (suc k))) tt (le→leb n (suc k) h)
-size-between zero (negsuc n) h = let e : ⊥ = omega arith in absurd e
-size-between (suc k) (negsuc n) h = yes-and (leZ (negsuc k) (negsuc n)) (leZ (negsuc n) (pos (suc k))) (le→leb n k (omega arith)) tt

@@ -5,10 +5,9 @@ use native.Mathlib.Decide.{decLt}
 use native.Mathlib.Omega.{arith}
 use borrow.Author.Needs.{needs}
 use lib.Dec.{T}
-use Rattle.indices.specs.Due.{scatters, OneCycle, Given}
+use Rattle.indices.specs.Due.{scatters, Given}
 use Rattle.indices.specs.declared.Answer.{Answer}
 use Rattle.indices.specs.declared.Index.{Index}
-use Rattle.indices.specs.declared.Index.the-variants as index
 use Rattle.indices.proofs.given.Statement.{statement}
 use Rattle.indices.proofs.given.Tie as tie
 

@@ -1,7 +1,6 @@
 -- `indices::index_of` meets its contract: the checks of the run, then 13, then what is given.
-use mathlib.Core.Path.{_≡_, sym, ap, ap₂, _∙_}
-use mathlib.Core.Bool.{Bool, true, _&&_}
-use Prim.Native.Nat.{ℕ}
+use mathlib.Core.Path.{_≡_, sym, ap, _∙_}
+use mathlib.Core.Bool.{Bool, _&&_}
 use native.Mathlib.Omega.{arith}
 use borrow.Author.Needs.{needs}
 use lib.Dec.{T, eqb, eqb→eq}
@@ -9,7 +8,7 @@ use borrow.Author.Tests.{eq-eqb}
 use mir.Facts.{and-yes, yes-and, T-not}
 use Rattle.whole.specs.Flags.{yes-T, no-T}
 use Rattle.run.specs.Limits.{verdict}
-use Rattle.run.specs.Checked.{Checked, checked}
+use Rattle.run.specs.Checked.{checked}
 use Rattle.run.specs.declared.Run.{Run}
 use Rattle.run.specs.declared.Verdict.{Verdict}
 use Rattle.indices.specs.Due.{refused, scatters, OneCycle, no-run, one-cycle, given}

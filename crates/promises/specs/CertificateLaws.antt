@@ -1,0 +1,82 @@
+-- A certificate that passes its tests shows that the answer is the one that is due.
+use mathlib.Core.Path.{_≡_}
+use mathlib.Core.Bool.{not, _&&_}
+use mathlib.Core.List.{[], _∷_}
+use mathlib.Core.Logic.{_≢_}
+use Prim.Native.Nat.{ℕ, _<_, _≤_}
+use native.Mathlib.Omega.{arith}
+use lib.Dec.{T, eqb, ltb→lt, eqb→eq}
+use mir.Facts.{yes-and, T-not, yes-eqb}
+use Rattle.run.specs.Limits.{verdict}
+use Rattle.run.specs.Checked.{Checked, checked}
+use Rattle.run.specs.declared.Run.{Run}
+use Rattle.band.specs.Line.{Line, Points, Proper, All}
+use Rattle.band.specs.Candidate.{Candidate, wide, part}
+use Rattle.indices.specs.Through.{means, swing, scatter}
+use Rattle.indices.specs.Parts.{SamePoints}
+use Rattle.indices.specs.Transfer.{same-points-sym, proper-points, within-points, least-points, single-points}
+use Rattle.indices.specs.Admitted.{proper-means, proper-through}
+use Rattle.indices.specs.Due.{Best, Independent, Fits, scatters, OneCycle, Given, several, one-line, Due, given}
+use Rattle.indices.specs.declared.Answer.{Answer}
+use Rattle.indices.specs.declared.Index.{Index}
+use Rattle.indices.specs.declared.bands.Through.the-variants as lines
+use Rattle.promises.specs.Figures.{Figure}
+use Rattle.promises.specs.Tests.{all, single, half, line-of}
+use Rattle.promises.specs.TestLaws.{all-hold, alike-by, largest-of-by, stands-by, width-only-by}
+use Rattle.promises.specs.LineLaws.{single-by, best-alike, many-by, terminal-by, shifted-by}
+use Rattle.promises.specs.LimitLaws.{same-points, same-scatter, largest-same}
+use Rattle.promises.specs.Certificate.{limits, Shown, far, ends, best, swings, varies, lh, lhr, Certificate, lh-several, shows, gives, certifies}
+use Rattle.promises.specs.Certificate as certificate
+
+-- the best line of points that are the same
+best-points : {P R : Points} {L : Line} {w z : ℕ} → SamePoints P R → Best All P L w z → Best All R L w z
+best-points e b = record { member = tt; reached = within-points e (b .reached); least = least-points e (b .least); single = single-points e (b .single) }
+
+-- ---- the line and the width of an index
+module _ {r : Run} (c : Checked r) (L : Line) where
+  -- the independent line has the width of its candidate
+  independent-by : (e : Candidate) → T (single (means r) e L) → Independent r L
+  independent-by e t = record { w = wide (means r) e; z = part (means r) e; best = single-by (proper-means c) e L t }
+
+  best-by : {P : Points} → Proper P → (e : Candidate) (w z : ℕ) → T (single P e L) → T (all (half P e w z)) → Best All P L w z
+  best-by {P} proper e w z s t = best-alike (alike-by (wide P e) (part P e) w z t) (single-by proper e L s)
+
+  -- scatter has two cycles or more
+  abbrev Cycles : Index → Type 0
+  Cycles which = T (scatters which) → 2 ≤ r .n
+
+  -- what is shown of an index's line and width is what its rule asks
+  pub shows-by : {which : Index} (s : Shown which) (w z : ℕ) → Cycles which → 0 < z → T (all (shows s r L w z)) → Fits which r L w z
+  shows-by (far i) w z n h t = terminal-by (proper-means c) L w z i h t
+  shows-by (ends i j) w z n h t = shifted-by (proper-means c) L w z i j t
+  shows-by (best e) w z n h t = let (s, (k, _)) = all-hold (shows (best e) r L w z) t in best-by (proper-means c) e w z s k
+  shows-by (swings i e) w z n h t = let (s, (l, (k, _))) = all-hold (shows (swings i e) r L w z) t in (independent-by e s, largest-of-by (r .m) (swing r) w i l, eqb→eq z (r .n) k)
+  shows-by (varies i e l) w z n h t =
+      let (s, (g, (k, (u, _)))) = all-hold (shows (varies i e l) r L w z) t in
+      (independent-by e s, largest-same (same-scatter c (n tt) (limits l) u) (largest-of-by (r .m) (scatter (limits l)) w i g), eqb→eq z (r .n) k)
+  shows-by (lh e) w z n h t = let (s, (k, _)) = all-hold (shows (lh e) r L w z) t in best-by (proper-through c lines.Strokes) e w z s k
+  shows-by (lhr e l) w z n h t =
+      let (s, (k, (u, _))) = all-hold (shows (lhr e l) r L w z) t in
+      let p = same-points c (n tt) (limits l) u in
+      best-points p (best-by (proper-points (same-points-sym p) (proper-through c lines.Limits)) e w z s k)
+
+-- ---- the answer
+pub gives-by : {which : Index} {r : Run} {a : Answer} → Checked r → (T (scatters which) → 2 ≤ r .n) → (c : Certificate which) → T (all (gives c r a)) → Given which r a
+gives-by {r = r} {a} k n (certificate.one-line w z s) t =
+    let (some, (line, (answer, _))) = all-hold (gives (certificate.one-line w z s) r a) t in
+    let h = ltb→lt 0 z some in
+    one-line (line-of a) w z h (shows-by k (line-of a) s w z n h line) (stands-by r (line-of a) w z a answer)
+gives-by {r = r} {a} k n (lh-several w z c A B) t =
+    let (some, (both, (width, (answer, _)))) = all-hold (gives (lh-several w z c A B) r a) t in
+    let o = width-only-by w z a answer in
+    several w z (ltb→lt 0 z some) (many-by (proper-through k lines.Strokes) c width A B both) (o .0) (o .1)
+
+-- the law: a figure that a certificate certifies is the answer that is due
+pub certified : (f : Figure) (c : Certificate (f .which)) → T (certifies f c) → Due (f .which) (f .run) (f .answer)
+certified f c t =
+    let r = f .run in
+    let (fine, (cycles, (answer, _))) = all-hold (eqb (verdict r .number) 0 ∷ not (scatters (f .which) && eqb (r .n) 1) ∷ all (gives c r (f .answer)) ∷ []) t in
+    let v : verdict r .number ≡ 0 = eqb→eq (verdict r .number) 0 fine in
+    let more : OneCycle (f .which) r → ⊥ = λ o. T-not (scatters (f .which) && eqb (r .n) 1) (yes-and (scatters (f .which)) (eqb (r .n) 1) (o .0) (yes-eqb (o .1))) cycles in
+    let k = checked r v in
+    given v more (gives-by k (λ s. let e : r .n ≢ 1 = λ e. more (s, e) in omega arith) c answer)

@@ -1,0 +1,106 @@
+-- For each run and index some answer is due.
+use mathlib.Core.Path.{_≡_, refl}
+use mathlib.Core.Bool.{Bool, true, false}
+use Prim.Native.Nat.{ℕ, _*_, _<_}
+use native.Mathlib.Decide.{ℕ-discrete}
+use native.Mathlib.Omega.{arith}
+use lib.Dec.{T}
+use lib.IntN.{ℤ, pos, natAbs, ℤ-discrete}
+use Rattle.run.specs.Limits.{verdict}
+use Rattle.run.specs.Checked.{Checked, checked}
+use Rattle.run.specs.declared.Run.{Run}
+use Rattle.groups.specs.Sums.{limit}
+use Rattle.band.specs.Line.{Line, Points, All}
+use Rattle.indices.specs.Through.{LargestOf, swing, scatter}
+use Rattle.indices.specs.Due.{Best, Independent, Fits, Many, SeveralFit, refused, only-width, span, Stands, scatters, OneCycle, Given, several, one-line, Due, no-run, one-cycle, given}
+use Rattle.indices.specs.declared.Answer.{Answer}
+use Rattle.indices.specs.declared.Index.{Index}
+use Rattle.indices.specs.declared.Index.the-variants as index
+use Rattle.indices.specs.declared.bands.Through.the-variants as lines
+use Rattle.promises.specs.Some.{some-made, some-nearest, some-largest}
+use Rattle.promises.specs.Lines as L
+use Rattle.promises.specs.Lines.{TheBest, Fitted, some-fit, independent}
+use Rattle.promises.specs.Ends.{SomeFit, terminal-fit, shifted-fit}
+
+-- ---- an answer with a line
+record Number (a : ℤ) : Type 0 where
+  number : ℕ
+  flat : a ≡ pos 0 → number ≡ 11
+  sloping : (a ≡ pos 0 → ⊥) → number ≡ 0
+
+some-number : (a : ℤ) → Number a
+some-number a = go (ℤ-discrete a (pos 0))
+  where
+    go : Dec (a ≡ pos 0) → Number a
+    go (yes e) = record { number = 11; flat = λ _. refl; sloping = λ d. absurd (d e) }
+    go (no d) = record { number = 0; flat = λ e. absurd (d e); sloping = λ _. refl }
+
+some-stands : (r : Run) (L : Line) (w z : ℕ) → (a : Answer) × Stands r L w z a
+some-stands r L w z =
+    let number = some-number (L .a) in
+    let width = some-made (pos w) z in
+    let slope = some-made (L .a) (L .q) in
+    let offset = some-made (L .b) (L .q) in
+    let index = some-made (pos (w * L .q)) (z * (natAbs (L .a) * span r)) in
+    let percent = some-nearest (100000 * natAbs (index .0 .num)) (index .0 .den) (index .1 .lowest .positive) in (
+      record { number = number .number; place = 0; width = width .0; slope = slope .0; offset = offset .0; index = index .0; thousandths = percent .0 },
+      record { flat = number .flat; sloping = number .sloping; place = refl; width = width .1; slope = slope .1; offset = offset .1; index = index .1; thousandths = percent .1 },
+    )
+
+-- ---- an answer for a checked run
+abbrev Some : Index → Run → Type 0
+Some which r = (a : Answer) × Given which r a
+
+with-line : (which : Index) {r : Run} → SomeFit which r → Some which r
+with-line which {r} f = let s = some-stands r (f .line) (f .w) (f .z) in (s .0, one-line (f .line) (f .w) (f .z) (f .some) (f .fits) (s .1))
+
+with-width : (which : Index) {r : Run} (w z : ℕ) → 0 < z → SeveralFit which r w z → Some which r
+with-width which w z h m = let f = some-made (pos w) z in (only-width (f .0), several w z h m (f .1) refl)
+
+-- the best line of some points, or several lines that reach its width
+module _ (which : Index) {r : Run} {P : Points} (fits : (L : Line) (w z : ℕ) → Best All P L w z → Fits which r L w z) where
+  with-best : TheBest P → Some which r
+  with-best b = with-line which (record { line = b .line; w = b .w; z = b .z; some = b .some; fits = fits (b .line) (b .w) (b .z) (b .best) })
+
+  with-fitted : ((w z : ℕ) → Many P w z → SeveralFit which r w z) → Fitted P → Some which r
+  with-fitted many (L.one-line b) = with-best b
+  with-fitted many (L.many w z h m) = with-width which w z h (many w z m)
+
+module _ {r : Run} (c : Checked r) where
+  -- the largest of the widths g, with the independent line
+  with-other : (which : Index) (g : ℕ → ℕ) → ((L : Line) (w : ℕ) → Independent r L → LargestOf (r .m) g w → Fits which r L w (r .n)) → Some which r
+  with-other which g fits =
+      let b = independent c in
+      let l = some-largest (r .m) (omega (arith, c .m-least)) g in
+      with-line which (record { line = b .line; w = l .0; z = r .n; some = c .n-least; fits = fits (b .line) (l .0) (record { w = b .w; z = b .z; best = b .best }) (l .1) })
+
+  some-given : (which : Index) → (OneCycle which r → ⊥) → Some which r
+  some-given index.Terminal more = with-line index.Terminal (terminal-fit c)
+  some-given index.Shifted more = with-line index.Shifted (shifted-fit c)
+  some-given index.Independent more = with-best index.Independent (λ L w z b. b) (independent c)
+  some-given index.Hysteresis more = with-other index.Hysteresis (swing r) (λ L w i l. (i, l, refl))
+  some-given index.Repeatability more = with-other index.Repeatability (scatter (limit r)) (λ L w i l. (i, l, refl))
+  some-given index.Lh more = with-fitted index.Lh (λ L w z b. b) (λ w z m. m) (some-fit c lines.Strokes tt)
+  some-given index.Lhr more =
+      let not-one : r .n ≡ 1 → ⊥ = λ e. more (tt, e) in
+      with-fitted index.Lhr (λ L w z b. b) (λ w z m. m) (some-fit c lines.Limits (omega (arith, not-one, c .n-least)))
+
+-- ---- an answer
+asks-more : (b : Bool) (n : ℕ) → Dec (T b × (n ≡ 1))
+asks-more false n = no (λ h. h .0)
+asks-more true n = go (ℕ-discrete n 1)
+  where
+    go : Dec (n ≡ 1) → Dec (T true × (n ≡ 1))
+    go (yes e) = yes (tt, e)
+    go (no d) = no (λ h. d (h .1))
+
+pub some-answer : (which : Index) (r : Run) → (a : Answer) × Due which r a
+some-answer which r = go (ℕ-discrete (verdict r .number) 0)
+  where
+    accepted : verdict r .number ≡ 0 → Dec (OneCycle which r) → (a : Answer) × Due which r a
+    accepted e (yes o) = (refused 13 0, one-cycle e o refl)
+    accepted e (no more) = let g = some-given (checked r e) which more in (g .0, given e more (g .1))
+
+    go : Dec (verdict r .number ≡ 0) → (a : Answer) × Due which r a
+    go (yes e) = accepted e (asks-more (scatters which) (r .n))
+    go (no n) = (refused (verdict r .number) (verdict r .place), no-run n refl)

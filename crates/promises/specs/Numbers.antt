@@ -1,0 +1,109 @@
+-- The numbers of the answers, and the fields under a refusal.
+use mathlib.Core.Path.{_≡_, refl, sym, ap, _∙_, subst}
+use mathlib.Core.Bool.{cond}
+use mathlib.Core.List.{List, _++_}
+use Prim.Native.Nat.{ℕ, _*_, _≤_}
+use native.Mathlib.Omega.{arith}
+use lib.Dec.{ltb, eqb, eqb→eq}
+use lib.IntN.{ℤ, pos, natAbs, ℤ-discrete}
+use lib.ListN.{length, drop}
+use Rattle.whole.specs.Flags.{cond-ind}
+use Rattle.exact.specs.Value.{nought}
+use Rattle.exact.specs.Rounding.{Nearest}
+use Rattle.exact.specs.declared.Fraction.{Fraction}
+use Rattle.run.specs.Run.{zeros}
+use Rattle.run.specs.Limits.{sizes, fails-at, fine, shape, verdict}
+use Rattle.run.specs.declared.Run.{Run}
+use Rattle.run.specs.declared.Verdict.{Verdict}
+use Rattle.run.specs.declared.Rule.the-variants.{Limits, Rising, Calm}
+use Rattle.reader.specs.Meaning.{refused}
+use Rattle.reader.specs.declared.Answer.{Answer}
+use Rattle.writer.specs.File.{file, written, buffer-after}
+use Rattle.writer.specs.declared.Written.{Written}
+use Rattle.runfile.specs.Because.{Because, cut-first, cut-later, unknown-first, unknown-later, sizes-out, place-out, number-out, second-time, missing, byte-after, not-rising, scattered, accepted}
+use Rattle.band.specs.Line.{Line}
+use Rattle.indices.specs.Due.{span, Stands}
+use Rattle.indices.specs.declared.Answer as indices
+
+-- ---- a run's check: 3, 5, 9, 10, or none
+pub verdict-ind : (r : Run) (P : ℕ → Type 0) → P 0 → P 3 → P 5 → P 9 → P 10 → P (verdict r .number)
+verdict-ind r P none three five nine ten =
+    let at : ℕ → ℕ → Verdict = λ number place. record { number = number; place = place } in
+    let Q : Verdict → Type 0 = λ v. P (v .number) in
+    let last = cond (ltb (fails-at Calm r) (r .m)) (at 10 (fails-at Calm r)) fine in
+    cond-ind (sizes (r .m) (r .n)) (cond (ltb (fails-at Limits r) (r .m)) (at 5 (fails-at Limits r)) (shape r)) (at 3 0) Q
+    (λ _. cond-ind (ltb (fails-at Limits r) (r .m)) (at 5 (fails-at Limits r)) (shape r) Q (λ _. five)
+    (λ _. cond-ind (ltb (fails-at Rising r) (r .m)) (at 9 (fails-at Rising r)) last Q (λ _. nine)
+    (λ _. cond-ind (ltb (fails-at Calm r) (r .m)) (at 10 (fails-at Calm r)) fine Q (λ _. ten) (λ _. none))))
+    (λ _. three)
+
+-- ---- a file: at most 10, and under a refusal the run of zeros
+pub record Read (a : Answer) : Type 0 where
+  pub number : a .number ≤ 10
+  pub run : (a .number ≡ 0 → ⊥) → a .run ≡ zeros
+
+refuses : {a : Answer} (number place : ℕ) → number ≤ 10 → a ≡ refused number place → Read a
+refuses number place h e = record { number = rw e h; run = λ _. ap (λ (a : Answer). a .run) e }
+
+pub read : {s : List ℕ} {a : Answer} → Because s a → Read a
+read (cut-first _ e) = refuses 1 0 (omega arith) e
+read (cut-later {p = p} _ _ e) = refuses 1 p (omega arith) e
+read (unknown-first _ e) = refuses 2 0 (omega arith) e
+read (unknown-later {p = p} _ _ e) = refuses 2 p (omega arith) e
+read (sizes-out _ _ e) = refuses 3 0 (omega arith) e
+read (place-out {p = p} _ _ e) = refuses 4 p (omega arith) e
+read (number-out {p = p} _ _ _ e) = refuses 5 p (omega arith) e
+read (second-time {p = p} _ _ _ _ e) = refuses 6 p (omega arith) e
+read (missing {p = p} _ _ e) = refuses 7 p (omega arith) e
+read (byte-after {end = end} _ _ _ e) = refuses 8 end (omega arith) e
+read (not-rising _ _ e) = refuses 9 _ (omega arith) e
+read (scattered _ _ _ e) = refuses 10 _ (omega arith) e
+read (accepted _ _ _ e) = record { number = rw e (omega arith); run = λ n. absurd (n (ap (λ (a : Answer). a .number) e)) }
+
+-- ---- an index with its line: 0 or 11, and under 11 the index is 0/1
+module _ {r : Run} {L : Line} {w z : ℕ} {a : indices.Answer} (s : Stands r L w z a) where
+  pub stands-ind : (P : ℕ → Type 0) → P 0 → P 11 → P (a .number)
+  stands-ind P none flat = go (ℤ-discrete (L .a) (pos 0))
+    where
+      go : Dec (L .a ≡ pos 0) → P (a .number)
+      go (yes e) = subst P (sym (s .flat e)) flat
+      go (no d) = subst P (sym (s .sloping d)) none
+
+  pub flat-index : a .number ≡ 11 → (a .index ≡ nought) × (a .thousandths ≡ 0)
+  flat-index e = go (ℤ-discrete (L .a) (pos 0))
+    where
+      none : L .a ≡ pos 0 → z * (natAbs (L .a) * span r) ≡ 0
+      none d = ap (λ (t : ℤ). z * (natAbs t * span r)) d ∙ times z (span r)
+        where
+          times : (z n : ℕ) → z * (0 * n) ≡ 0
+          times z n = omega arith
+
+      zero-percent : {f : Fraction} {t : ℕ} → f ≡ nought → Nearest (100000 * natAbs (f .num)) (f .den) t → t ≡ 0
+      zero-percent {f} {t} d n = let m = subst (λ (f : Fraction). Nearest (100000 * natAbs (f .num)) (f .den) t) d n in omega (arith, m .low)
+
+      go : Dec (L .a ≡ pos 0) → (a .index ≡ nought) × (a .thousandths ≡ 0)
+      go (yes d) = let i = s .index .none (none d) in (i, zero-percent i (s .thousandths))
+      go (no d) = let n = s .sloping d in absurd (omega arith)
+
+-- ---- a buffer lent to the writer: what the check says, or 14
+module _ (r : Run) (buffer : List ℕ) where
+  abbrev full : Written
+  full = record { number = 0; place = 0; len = length (file r) }
+
+  abbrev short : Written
+  short = record { number = 14; place = 0; len = 0 }
+
+  abbrev unchecked : Written
+  unchecked = record { number = verdict r .number; place = verdict r .place; len = 0 }
+
+  written-ind : (P : Written → Type 0) → P full → P short → P unchecked → P (written r buffer)
+  written-ind P a b c = cond-ind (eqb (verdict r .number) 0) (cond (ltb (length buffer) (length (file r))) short full) unchecked P (λ _. cond-ind (ltb (length buffer) (length (file r))) short full P (λ _. b) (λ _. a)) (λ _. c)
+
+  pub write-ind : (P : ℕ → Type 0) → P 0 → P 3 → P 5 → P 9 → P 10 → P 14 → P (written r buffer .number)
+  write-ind P none three five nine ten fourteen = written-ind (λ w. P (w .number)) none fourteen (verdict-ind r P none three five nine ten)
+
+  pub write-none : (written r buffer .number ≡ 0 → ⊥) → (written r buffer .len ≡ 0) × (buffer-after r buffer ≡ buffer)
+  write-none n = (
+    written-ind (λ w. (w .number ≡ 0 → ⊥) → w .len ≡ 0) (λ n. absurd (n refl)) (λ _. refl) (λ _. refl) n,
+    cond-ind (eqb (written r buffer .number) 0) (file r ++ drop (length (file r)) buffer) buffer (λ b. b ≡ buffer) (λ t. absurd (n (eqb→eq (written r buffer .number) 0 t))) (λ _. refl),
+  )
