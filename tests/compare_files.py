@@ -1,34 +1,21 @@
 """Holds what the program `answers` prints of run files and of runs built by hand to what second/runfile.py says, byte for byte."""
 import make_files
+from requests import READ, WRITE, file_request, lent, run_request
 from second import runfile
 
-BEFORE = 170
 ROOM = 1840
 
 
-def word(value):
-    return value.to_bytes(8, 'little')
-
-
-def file_request(data):
-    return word(0) + word(len(data)) + data
-
-
-def run_request(run, length):
-    numbers = run.inputs() + run.readings()
-    return word(1) + word(length) + word(run.m) + word(run.n) + b''.join(word(v + 2**63) for v in numbers)
-
-
-def write_lines(run, length):
-    (number, place, written), buffer = runfile.written(run, bytes([BEFORE]) * length)
+def write_lines(run, room):
+    (number, place, written), buffer = runfile.written(run, lent(room))
     return ['write %d %d %d' % (number, place, written), buffer.hex()]
 
 
-def file_lines(data):
+def file_lines(data, room=ROOM):
     number, place, run = runfile.answer(data)
     lines = ['read %d %d' % (number, place), 'run %d %d' % (run.m, run.n)]
     lines += ['x ' + ' '.join(map(str, run.inputs())), 'y ' + ' '.join(map(str, run.readings()))]
-    return lines + (write_lines(run, ROOM) if number == 0 else [])
+    return lines + (write_lines(run, room) if number == 0 else [])
 
 
 def paired_by_place(data):
@@ -70,8 +57,8 @@ def told_apart(files, runs):
     else:
         wrong.append('no file tells a reader that pairs by place in the file from ours')
     for name, writer in WRONG_WRITERS:
-        for which, (run, length) in enumerate(runs):
-            before = bytes([BEFORE]) * length
+        for which, (run, room) in enumerate(runs):
+            before = lent(room)
             if runfile.written(run, before)[1] != writer(run, before):
                 told.append('%s differs at run %d, of %d points and %d cycles' % (name, which, run.m, run.n))
                 break
@@ -88,7 +75,7 @@ def round_trip(run, due, printed):
         at += len(lines)
         if lines[0] == 'read 0 0':
             length = int(got[4].split()[3])
-            requests.append(file_request(bytes.fromhex(got[5])[:length]))
+            requests.append(file_request(READ, bytes.fromhex(got[5])[:length], ROOM))
             expected += lines
     if run('answers', b''.join(requests)).decode('ascii').split('\n') != expected + ['']:
         wrong.append('a written file is not read back as the run that was written')
@@ -99,7 +86,8 @@ def compare(run):
     files = [data for data in make_files.files() if len(data) <= 4096]
     runs = list(make_files.hand_runs())
     due = [file_lines(data) for data in files] + [write_lines(*made) for made in runs]
-    printed = run('answers', b''.join(map(file_request, files)) + b''.join(run_request(*made) for made in runs)).decode('ascii').split('\n')
+    requests = [file_request(READ, data, ROOM) for data in files] + [run_request(WRITE, *made) for made in runs]
+    printed = run('answers', b''.join(requests)).decode('ascii').split('\n')
     wrong, met, at = [], {}, 0
     for which, lines in enumerate(due):
         got = printed[at:at + len(lines)]

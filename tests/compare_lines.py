@@ -1,6 +1,7 @@
 """Holds what the program `lines` prints of bands of points to what second/lines.py says, byte for byte."""
 import random
 
+from requests import signed, word
 from second import lines
 from second.lines import Band
 
@@ -86,12 +87,8 @@ def bands(seed=2001):
         yield with_gaps(x, low, high, make.choice((1, 2, 3, 20, 200)))
 
 
-def word(value):
-    return value.to_bytes(8, 'little')
-
-
 def encode(band):
-    return word(band.m) + word(band.d) + b''.join(word(v + 2**63) for v in band.x + band.low + band.high)
+    return word(band.m) + word(band.d) + signed(band.x + band.low + band.high)
 
 
 def text(drawn):

@@ -1,14 +1,14 @@
-"""Holds what the programs `sheets` and `sheet` print of files and of runs built by hand to what second/sheet.py says, byte for byte, and both to the figures of the paper and the Standard."""
+"""Holds what the programs `answers` and `sheet` print of files and of runs built by hand to what second/sheet.py says, byte for byte, and both to the figures of the paper and the Standard."""
 import os
 from itertools import zip_longest
 
 import make_sheets
 import worked_runs
 import wrong_sheets
+from requests import INDICES, SHEET, file_request, lent, run_request
 from second import sheet
 from second.sheet import NAMES, Answer, Bench, text
 
-BEFORE = 170
 ROOM = 700
 FOLDER = os.path.join(os.path.dirname(os.path.dirname(os.path.abspath(__file__))), 'runs')
 
@@ -74,21 +74,9 @@ DUE_NUMBERS['lh'] += (12,)
 DUE_NUMBERS['lhr'] += (12, 13)
 
 
-def word(value):
-    return value.to_bytes(8, 'little')
-
-
-def file_request(data, room):
-    return word(0) + word(room) + word(len(data)) + data
-
-
-def run_request(run):
-    return word(1) + word(run.m) + word(run.n) + b''.join(word(v + 2**63) for v in run.inputs() + run.readings())
-
-
 def buffer_lines(due, room):
     """What is due of a sheet in a lent buffer: the sheet at its front, or 14 and nothing touched."""
-    before = bytes([BEFORE]) * room
+    before = lent(room)
     if len(due) > room:
         return ['sheet 14 0', before.hex()]
     return ['sheet 0 %d' % len(due), (due + before[len(due):]).hex()]
@@ -131,7 +119,7 @@ class Case:
 
 
 def file_case(name, data, due, room=ROOM):
-    return Case('file %s with room %d' % (name, room), file_request(data, room), buffer_lines(due, room))
+    return Case('file %s with room %d' % (name, room), file_request(SHEET, data, room), buffer_lines(due, room))
 
 
 def tight_cases(files, dues):
@@ -177,9 +165,9 @@ def compare_cases(cases, printed):
         at += len(case.due)
         fault = difference(case, got)
         if fault:
-            return answers, ['sheets of ' + fault]
+            return answers, ['answers of ' + fault]
         answers.append(got)
-    return answers, [] if printed[at:] == [''] else ['sheets printed more than is due: %r' % printed[at:][:2]]
+    return answers, [] if printed[at:] == [''] else ['answers printed more than is due: %r' % printed[at:][:2]]
 
 
 def figure_faults(who, sheets, runs):
@@ -301,7 +289,7 @@ class Material:
     def cases(self):
         """The files first, in their order, then the runs in theirs, then the files with tight buffers."""
         out = [file_case(name, data, due) for (name, data), due in zip(self.files, self.dues)]
-        out += [Case('run ' + name, run_request(run), lines) for (name, run), lines in zip(self.runs, self.lines)]
+        out += [Case('run ' + name, run_request(INDICES, run, 0), lines) for (name, run), lines in zip(self.runs, self.lines)]
         return out + list(tight_cases(self.files, self.dues))
 
     def met(self):
@@ -311,13 +299,13 @@ class Material:
 def compare(run):
     made = Material()
     cases, chosen = made.cases(), program_files(made.files, made.dues)
-    printed = run('sheets', b''.join(case.request for case in cases)).decode('ascii', 'replace').split('\n')
+    printed = run('answers', b''.join(case.request for case in cases)).decode('ascii', 'replace').split('\n')
     answers, wrong = compare_cases(cases, printed)
     if not wrong:
         count = len(made.files)
         sheets = {name: printed_sheet(answers[which]) for name, which in named_files(made.files).items()}
         runs = {name: lines for (name, _), lines in zip(made.runs, answers[count:])}
-        wrong += figure_faults('sheets', sheets, runs)
+        wrong += figure_faults('answers', sheets, runs)
     wrong += compare_program(run, chosen)
     wrong += own_faults(made.files, made.dues, made.runs, made.lines)
     met, per_index = made.met()

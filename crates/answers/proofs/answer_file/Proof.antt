@@ -7,6 +7,9 @@ use borrow.Author.Needs.{needs}
 use Rattle.answers.proofs.answer_file.Statement.{statement}
 use Rattle.answers.proofs.answer_file.Tie as tie
 
+next-or-zero-requires : tie.Need-next-or-zero-requires
+next-or-zero-requires c κs = search needs
+
 returns : tie.Need-returns
 returns c = search needs
 
@@ -14,22 +17,25 @@ buffer-requires : tie.Need-buffer-requires
 buffer-requires c κs = search needs
 
 array-borrow-prefix-b : tie.Need-array-borrow-prefix-b
-array-borrow-prefix-b c = omega (arith, c .buffer .ensures)
+array-borrow-prefix-b c = search needs
 
 slice-aggregate-read-full : tie.Need-slice-aggregate-read-full
-slice-aggregate-read-full c = sym (length-take-le (c .before .before .before .args .len) (c .before .buffer .result) (omega (arith, c .before .buffer .ensures)))
+slice-aggregate-read-full c = sym (length-take-le _ _ (omega arith))
 
 read-full-requires : tie.Need-read-full-requires
 read-full-requires c κs = search needs
 
 array-share-prefix-b : tie.Need-array-share-prefix-b
-array-share-prefix-b c = simp length-append (omega (arith, c .before .before .read-full .ensures))
+array-share-prefix-b c = simp length-append (omega arith)
 
-slice-aggregate-print-answer : tie.Need-slice-aggregate-print-answer
-slice-aggregate-print-answer c = sym (length-take-le _ _ (simp length-append (omega (arith, c .before .before .before .read-full .ensures))))
+slice-aggregate-print-file : tie.Need-slice-aggregate-print-file
+slice-aggregate-print-file c = sym (length-take-le _ _ (simp length-append (omega arith)))
 
-print-answer-requires : tie.Need-print-answer-requires
-print-answer-requires c κs = search needs
+print-file-requires : tie.Need-print-file-requires
+print-file-requires c κs = search needs
+
+same-length : tie.Need-same-length
+same-length c = search needs
 
 returns-2 : tie.Need-returns-2
 returns-2 c = search needs
@@ -41,13 +47,15 @@ pub answer-file-spec : {M : Type 1} → statement M
 answer-file-spec =
     tie.close
     (tie.spec
+    next-or-zero-requires
     returns
     buffer-requires
     array-borrow-prefix-b
     slice-aggregate-read-full
     read-full-requires
     array-share-prefix-b
-    slice-aggregate-print-answer
-    print-answer-requires
+    slice-aggregate-print-file
+    print-file-requires
+    same-length
     returns-2
     returns-3)

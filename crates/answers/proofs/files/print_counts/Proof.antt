@@ -1,26 +1,23 @@
--- `answers::print_inputs` ends, and reads within its array.
-use Prim.Native.Nat.{_-_, _≤_}
+-- `answers::files::print_counts` ends: what is left to print falls.
+use Prim.Native.Nat.{_-_}
 use borrow.Author.Needs.{needs}
-use Rattle.answers.proofs.print_inputs.Statement.{statement}
-use Rattle.answers.proofs.print_inputs.Tie as tie
+use Rattle.answers.proofs.files.print_counts.Statement.{statement}
+use Rattle.answers.proofs.files.print_counts.Tie as tie
 
 abbrev Inv-loop : tie.InvT-loop
-Inv-loop x i₀ i = i ≤ 11
+Inv-loop r from to i₀ i = Unit {0}
 
 abbrev μ-loop : tie.MeasureT-loop
-μ-loop x i₀ i = 11 - i
+μ-loop r from to i₀ i = to - i
 
 loop-holds : tie.Need-loop-holds Inv-loop μ-loop
-loop-holds c = search needs
-
-mul-v : tie.Need-mul-v Inv-loop μ-loop
-mul-v c = search needs
-
-array-copy-out-v : tie.Need-array-copy-out-v Inv-loop μ-loop
-array-copy-out-v c = search needs
+loop-holds c = tt
 
 print-space-requires : tie.Need-print-space-requires Inv-loop μ-loop
 print-space-requires c κs = search needs
+
+count-at-requires : tie.Need-count-at-requires Inv-loop μ-loop
+count-at-requires c κs = search needs
 
 print-signed-requires : tie.Need-print-signed-requires Inv-loop μ-loop
 print-signed-requires c κs = search needs
@@ -32,7 +29,7 @@ loop-less : tie.Need-loop-less Inv-loop μ-loop
 loop-less c = search needs
 
 loop-again : tie.Need-loop-again Inv-loop μ-loop
-loop-again c = search needs
+loop-again c = tt
 
 print-line-end-requires : tie.Need-print-line-end-requires Inv-loop μ-loop
 print-line-end-requires c κs = search needs
@@ -40,16 +37,15 @@ print-line-end-requires c κs = search needs
 returns : tie.Need-returns Inv-loop μ-loop
 returns c = search needs
 
-pub print-inputs-spec : {M : Type 1} → statement M
-print-inputs-spec =
+pub print-counts-spec : {M : Type 1} → statement M
+print-counts-spec =
     tie.close
     (tie.spec
     Inv-loop
     μ-loop
     loop-holds
-    mul-v
-    array-copy-out-v
     print-space-requires
+    count-at-requires
     print-signed-requires
     add-i
     loop-less
