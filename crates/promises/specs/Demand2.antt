@@ -1,13 +1,13 @@
 -- Demand 2. "Each accepted run gives exactly the means, lines and indices of the Standard, as fractions in lowest terms. The independent line has the least largest deviation. Writing a run and reading it back gives the same run; reading a file and writing it gives the same records in travel order."
 --
--- What it says: of a run that no check refuses, every mean is the sum over all n cycles over its unit; an index that is accepted has a line and a width that `Fits` names for it, and is that width over the full-span output of that line; all fractions are in lowest terms. The reported independent line keeps every mean within the reported width, and no line of fractions keeps them within less. That these answers exist and are the only ones is demand 1.
+-- What it says: of a run that no check refuses, every mean is the sum over all n cycles over its unit; an index that is accepted has a line and a width that `Fits` names for it, and is that width over the full-span output of that line; under 11 that line has slope zero, and under 12 several lines reach the width; all fractions are in lowest terms. The reported independent line keeps every mean within the reported width, and no line of fractions keeps them within less. That these answers exist and are the only ones is demand 1.
 -- What it does not say: that a sensor's readings are right, or that a file holds the readings that were taken.
 use mathlib.Core.Path.{_≡_, refl, sym, ap, _∙_}
 use mathlib.Core.List.{List}
 use Prim.Native.Nat.{ℕ, zero, suc, _*_, _-_, _<_}
 use native.Mathlib.Nat.{mul-pos}
 use native.Mathlib.Omega.{arith}
-use lib.IntN.{ℤ, pos, negsuc, natAbs}
+use lib.IntN.{ℤ, pos, negsuc, natAbs, ℤ-discrete}
 use lib.ListN.{getD}
 use Rattle.whole.specs.Sign.{lt-sign, nat-positive}
 use Rattle.exact.specs.Value.{Worth, Lowest, Made, nought}
@@ -31,7 +31,7 @@ use Rattle.band.specs.Line.{Line, All}
 use Rattle.band.specs.Same.{same-within}
 use Rattle.fit.specs.Scaled.{within-alike, least-alike, single-alike}
 use Rattle.indices.specs.Through.{means}
-use Rattle.indices.specs.Due.{Best, Fits, span, Due, no-run, one-cycle, given, several, one-line}
+use Rattle.indices.specs.Due.{Best, Fits, SeveralFit, span, Stands, Given, several, one-line, Due, no-run, one-cycle, given}
 use Rattle.indices.specs.Admitted.{proper-means}
 use Rattle.indices.specs.declared.Answer.{Answer}
 use Rattle.indices.specs.declared.Index.{Index}
@@ -50,8 +50,8 @@ pub record MeansAt (r : Run) (a : Averages) (i : ℕ) : Type 0 where
   pub down : Is (down-sum r i) (r .n) (getD (a .down) i nought)
   pub both : Is (both-sum r i) (2 * r .n) (getD (a .both) i nought)
 
--- an index that is accepted: its line, its width w/z, and the index, width over full-span output
-pub record Accepted (which : Index) (r : Run) (a : Answer) : Type 0 where
+-- the line of an index and its width w/z, as the answer reports them
+pub record Drawn (which : Index) (r : Run) (a : Answer) : Type 0 where
   pub line : Line
   pub w : ℕ
   pub z : ℕ
@@ -59,14 +59,32 @@ pub record Accepted (which : Index) (r : Run) (a : Answer) : Type 0 where
   pub width : Is (pos w) z (a .width)
   pub slope : Is (line .a) (line .q) (a .slope)
   pub offset : Is (line .b) (line .q) (a .offset)
-  pub output : 0 < natAbs (line .a) * span r
-  pub index : Is (pos (w * line .q)) (z * (natAbs (line .a) * span r)) (a .index)
+
+-- an index that is accepted: the width over the full-span output of the line
+pub record Accepted (which : Index) (r : Run) (a : Answer) : Type 0 where
+  pub drawn : Drawn which r a
+  pub output : 0 < natAbs (drawn .line .a) * span r
+  pub index : Is (pos (drawn .w * drawn .line .q)) (drawn .z * (natAbs (drawn .line .a) * span r)) (a .index)
   pub thousandths : Nearest (100000 * natAbs (a .index .num)) (a .index .den) (a .thousandths)
+
+-- 11: the line has slope zero
+pub record Flat (which : Index) (r : Run) (a : Answer) : Type 0 where
+  pub drawn : Drawn which r a
+  pub slope : drawn .line .a ≡ pos 0
+
+-- 12: several lines reach the width w/z
+pub record Divided (which : Index) (r : Run) (a : Answer) : Type 0 where
+  pub w : ℕ
+  pub z : ℕ
+  pub several : SeveralFit which r w z
+  pub width : Is (pos w) z (a .width)
 
 -- of a run that no check refuses
 pub record Standard (r : Run) : Type 0 where
   pub averages : (a : Averages) → AveragesDue r a → (i : ℕ) → i < r .m → MeansAt r a i
   pub index : (which : Index) (a : Answer) → Due which r a → a .number ≡ 0 → Accepted which r a
+  pub flat : (which : Index) (a : Answer) → Due which r a → a .number ≡ 11 → Flat which r a
+  pub divided : (which : Index) (a : Answer) → Due which r a → a .number ≡ 12 → Divided which r a
   -- the reported independent line has the least largest deviation, under 11 too
   pub independent : (a : Answer) → Due kinds.Independent r a → (L : Line) → Reports a L → Best All (means r) L (natAbs (a .width .num)) (a .width .den)
   -- written and read back it is the same run, with zeros beyond m and n
@@ -103,24 +121,45 @@ module _ (r : Run) (e : verdict r .number ≡ 0) where
   output-some (pos (suc k)) n = mul-pos (omega arith) span-some
   output-some (negsuc k) n = mul-pos (omega arith) span-some
 
+  abbrev drawn-by : {which : Index} {a : Answer} (L : Line) (w z : ℕ) → 0 < z → Fits which r L w z → Stands r L w z a → Drawn which r a
+  drawn-by L w z some fits s = record { line = L; w = w; z = z; fits = fits; width = made-is some (s .width); slope = made-is (L .some) (s .slope); offset = made-is (L .some) (s .offset) }
+
+  -- what an answer with a number k says, where no refusal of the run and no 13 is due
+  by-number : {which : Index} {a : Answer} {P : Type 0} (k : ℕ) → Due which r a → a .number ≡ k → (13 ≡ k → ⊥) → (Given which r a → P) → P
+  by-number k (no-run n _) number other f = absurd (n e)
+  by-number k (one-cycle _ _ q) number other f = absurd (other (sym (ap (λ (a : Answer). a .number) q) ∙ number))
+  by-number k (given _ _ g) number other f = f g
+
   the-index : (which : Index) (a : Answer) → Due which r a → a .number ≡ 0 → Accepted which r a
-  the-index which a (no-run n _) number = absurd (n e)
-  the-index which a (one-cycle _ _ q) number = let z : _≡_ {A = ℕ} 13 0 = sym (ap (λ (a : Answer). a .number) q) ∙ number in absurd (omega arith)
-  the-index which a (given _ _ (several w z _ _ _ q)) number = let z : _≡_ {A = ℕ} 12 0 = sym (ap (λ (a : Answer). a .number) q) ∙ number in absurd (omega arith)
-  the-index which a (given _ _ (one-line L w z some fits s)) number =
-      let out = output-some (L .a) (λ flat. let z : _≡_ {A = ℕ} 11 0 = sym (s .flat flat) ∙ number in absurd (omega arith)) in
-      record {
-        line = L;
-        w = w;
-        z = z;
-        fits = fits;
-        width = made-is some (s .width);
-        slope = made-is (L .some) (s .slope);
-        offset = made-is (L .some) (s .offset);
-        output = out;
-        index = made-is (mul-pos some out) (s .index);
-        thousandths = s .thousandths;
-      }
+  the-index which a due number = by-number 0 due number (λ z. absurd (omega arith)) go
+    where
+      go : Given which r a → Accepted which r a
+      go (several w z _ _ _ q) = let z : _≡_ {A = ℕ} 12 0 = sym (ap (λ (a : Answer). a .number) q) ∙ number in absurd (omega arith)
+      go (one-line L w z some fits s) =
+          let out = output-some (L .a) (λ flat. let z : _≡_ {A = ℕ} 11 0 = sym (s .flat flat) ∙ number in absurd (omega arith)) in
+          record { drawn = drawn-by L w z some fits s; output = out; index = made-is (mul-pos some out) (s .index); thousandths = s .thousandths }
+
+  the-flat : (which : Index) (a : Answer) → Due which r a → a .number ≡ 11 → Flat which r a
+  the-flat which a due number = by-number 11 due number (λ z. absurd (omega arith)) go
+    where
+      go : Given which r a → Flat which r a
+      go (several w z _ _ _ q) = let z : _≡_ {A = ℕ} 12 11 = sym (ap (λ (a : Answer). a .number) q) ∙ number in absurd (omega arith)
+      go (one-line L w z some fits s) = record { drawn = drawn-by L w z some fits s; slope = level (ℤ-discrete (L .a) (pos 0)) }
+        where
+          level : Dec (L .a ≡ pos 0) → L .a ≡ pos 0
+          level (yes d) = d
+          level (no d) = let z : _≡_ {A = ℕ} 0 11 = sym (s .sloping d) ∙ number in absurd (omega arith)
+
+  the-divided : (which : Index) (a : Answer) → Due which r a → a .number ≡ 12 → Divided which r a
+  the-divided which a due number = by-number 12 due number (λ z. absurd (omega arith)) go
+    where
+      go : Given which r a → Divided which r a
+      go (several w z some m u _) = record { w = w; z = z; several = m; width = made-is some u }
+      go (one-line L w z some fits s) = absurd (apart (ℤ-discrete (L .a) (pos 0)))
+        where
+          apart : Dec (L .a ≡ pos 0) → ⊥
+          apart (yes d) = let z : _≡_ {A = ℕ} 11 12 = sym (s .flat d) ∙ number in omega arith
+          apart (no d) = let z : _≡_ {A = ℕ} 0 12 = sym (s .sloping d) ∙ number in omega arith
 
   the-independent : (a : Answer) → Due kinds.Independent r a → (L : Line) → Reports a L → Best All (means r) L (natAbs (a .width .num)) (a .width .den)
   the-independent a (no-run n _) L p = absurd (n e)
@@ -137,6 +176,6 @@ module _ (r : Run) (e : verdict r .number ≡ 0) where
 
 pub demand-2 : Demand2
 demand-2 = record {
-  run = λ r e. let v = verdict-fine r e in record { averages = the-means r e; index = the-index r e; independent = the-independent r e; back = trip r v; same = trimmed-is r v };
+  run = λ r e. let v = verdict-fine r e in record { averages = the-means r e; index = the-index r e; flat = the-flat r e; divided = the-divided r e; independent = the-independent r e; back = trip r v; same = trimmed-is r v };
   rewritten = rewritten;
 }
