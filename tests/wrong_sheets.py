@@ -1,10 +1,11 @@
-"""The readings of the paper and the Standard that go wrong, each as a method that differs from the right one in that alone, and the files that tell them apart."""
+"""The readings of the paper and the Standard that go wrong, and idle programs, each as a method that differs from the right one in that alone, and the files that tell them apart."""
 from fractions import Fraction
 from math import ceil, floor
 
 import compare_files
+import make_files
 from second import lines
-from second.sheet import DOWN, UP, Bench, sheet
+from second.sheet import DOWN, UP, Bench, refused, sheet
 
 
 class PairedByPlace(Bench):
@@ -84,6 +85,16 @@ class FirstCycleAlone(Bench):
         return [self.run.y.get((stroke, 0, i), 0)] * self.run.n
 
 
+class RefusesEveryRun(Bench):
+    def answer(self, name):
+        return refused(3)
+
+
+class SameSheetAlways(Bench):
+    def __init__(self, run, data=b''):
+        Bench.__init__(self, make_files.paper_run(), data)
+
+
 # What is read wrongly, the method, and the wrong figure it is known for, if any: the file, the line counted from 0, and that line's last field.
 WRONG = [
     ('pairing the jth up reading of the file with the jth down reading', PairedByPlace, None),
@@ -99,6 +110,8 @@ WRONG = [
     ("dividing by n in Bessel's formula", DividedByN, None),
     ('the largest k at every limit point', LargestLimitEverywhere, None),
     ('the first cycle for all cycles', FirstCycleAlone, None),
+    ('a program that refuses every run', RefusesEveryRun, None),
+    ('a program that prints the same sheet always', SameSheetAlways, None),
 ]
 
 
