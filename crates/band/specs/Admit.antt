@@ -2,16 +2,12 @@
 use mathlib.Core.Bool.{Bool, true, _&&_}
 use Prim.Native.Nat.{ℕ, zero, suc}
 use lib.Dec.{leb}
-use lib.IntN.{ℤ, pos, negℤ}
 use lib.Signed.{leZ, ltZ}
 use Rattle.whole.specs.Every.{every}
+use Rattle.whole.specs.Between.{between}
 use Rattle.band.specs.Line.{Points}
 use Rattle.band.specs.Band.{points, most-x, most-v, most-d}
 use Rattle.band.specs.declared.Band.{Band}
-
--- z is at most k in size
-abbrev pub small : ℕ → ℤ → Bool
-small k z = leZ (negℤ (pos k)) z && leZ z (pos k)
 
 -- input i is above the one before it
 abbrev pub rises-to : Points → ℕ → Bool
@@ -19,7 +15,7 @@ rises-to P zero = true
 rises-to P (suc i) = ltZ (P .x i) (P .x (suc i))
 
 abbrev pub point-ok : Points → ℕ → Bool
-point-ok P i = (small most-x (P .x i) && rises-to P i) && ((small most-v (P .low i) && small most-v (P .high i)) && leZ (P .low i) (P .high i))
+point-ok P i = (between most-x (P .x i) && rises-to P i) && ((between most-v (P .low i) && between most-v (P .high i)) && leZ (P .low i) (P .high i))
 
 -- 3 to 11 inputs, a unit of 1 to 200
 abbrev pub sized : Band → Bool

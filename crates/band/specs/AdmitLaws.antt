@@ -6,32 +6,24 @@ use Prim.Native.Nat.{ℕ, zero, suc, _-_, _<_, _≤_}
 use native.Mathlib.Nat.{eq-or-lt-of-le}
 use native.Mathlib.Omega.{arith}
 use lib.Dec.{T, leb, leb→le, le→leb}
-use lib.IntN.{ℤ, pos, negsuc, negℤ, natAbs}
+use lib.IntN.{ℤ, natAbs}
 use lib.Signed.{_≤ℤ_, _<ℤ_, leZ, ltZ, ≤ℤ-refl}
 use mir.Facts.{and-yes, yes-and, T-not}
 use Rattle.whole.specs.Flags.{yes-T, no-T}
 use Rattle.whole.specs.Every.{every, every-holds, every-by}
+use Rattle.whole.specs.Between.{between, between-size, size-between}
 use Rattle.whole.specs.Sign.{le-antisym}
 use Rattle.whole.specs.Balance as B
 use Rattle.whole.specs.Balance.{int}
 use Rattle.band.specs.Line.{Points}
 use Rattle.band.specs.Band.{points, most-x, most-v, most-d, Admitted, Level}
-use Rattle.band.specs.Admit.{small, sized, rises-to, point-ok, admits, level}
+use Rattle.band.specs.Admit.{sized, rises-to, point-ok, admits, level}
 use Rattle.band.specs.declared.Band.{Band}
 
 -- an input that is not the first rises from the one before it
 pub rises-from : (P : Points) (i : ℕ) → (i ≡ 0 → ⊥) → ltZ (P .x (i - 1)) (P .x i) ≡ rises-to P i
 rises-from P zero n = absurd (n refl)
 rises-from P (suc i) n = let e : suc i - 1 ≡ i = omega arith in ap (λ (j : ℕ). ltZ (P .x j) (P .x (suc i))) e
-
--- ---- sizes
-small-size : (k : ℕ) (z : ℤ) → T (small (suc k) z) → natAbs z ≤ suc k
-small-size k (pos n) t = leb→le n (suc k) (and-yes (leZ (negℤ (pos (suc k))) (pos n)) (leZ (pos n) (pos (suc k))) t .1)
-small-size k (negsuc n) t = omega (arith, leb→le n k (and-yes (leZ (negℤ (pos (suc k))) (negsuc n)) (leZ (negsuc n) (pos (suc k))) t .0))
-
-size-small : (k : ℕ) (z : ℤ) → natAbs z ≤ suc k → T (small (suc k) z)
-size-small k (pos n) h = yes-and (leZ (negℤ (pos (suc k))) (pos n)) (leZ (pos n) (pos (suc k))) tt (le→leb n (suc k) h)
-size-small k (negsuc n) h = yes-and (leZ (negℤ (pos (suc k))) (negsuc n)) (leZ (negsuc n) (pos (suc k))) (le→leb n k (omega arith)) tt
 
 -- ---- inputs that rise step by step rise
 module _ (P : Points) where
@@ -59,17 +51,17 @@ module _ (P : Points) where
 
   fine : (i : ℕ) → T (point-ok P i) → Fine i
   fine i t =
-      let s = and-yes (small most-x (P .x i) && rises-to P i) ((small most-v (P .low i) && small most-v (P .high i)) && leZ (P .low i) (P .high i)) t in
-      let a = and-yes (small most-x (P .x i)) (rises-to P i) (s .0) in
-      let b = and-yes (small most-v (P .low i) && small most-v (P .high i)) (leZ (P .low i) (P .high i)) (s .1) in
-      let v = and-yes (small most-v (P .low i)) (small most-v (P .high i)) (b .0) in
-      record { input = small-size 29999 (P .x i) (a .0); rises = a .1; low = small-size 102999999 (P .low i) (v .0); high = small-size 102999999 (P .high i) (v .1); order = record { le = b .1 } }
+      let s = and-yes (between most-x (P .x i) && rises-to P i) ((between most-v (P .low i) && between most-v (P .high i)) && leZ (P .low i) (P .high i)) t in
+      let a = and-yes (between most-x (P .x i)) (rises-to P i) (s .0) in
+      let b = and-yes (between most-v (P .low i) && between most-v (P .high i)) (leZ (P .low i) (P .high i)) (s .1) in
+      let v = and-yes (between most-v (P .low i)) (between most-v (P .high i)) (b .0) in
+      record { input = between-size most-x (P .x i) (a .0); rises = a .1; low = between-size most-v (P .low i) (v .0); high = between-size most-v (P .high i) (v .1); order = record { le = b .1 } }
 
   point-fine : (i : ℕ) → Fine i → T (point-ok P i)
   point-fine i f =
-      yes-and (small most-x (P .x i) && rises-to P i) ((small most-v (P .low i) && small most-v (P .high i)) && leZ (P .low i) (P .high i))
-      (yes-and (small most-x (P .x i)) (rises-to P i) (size-small 29999 (P .x i) (f .input)) (f .rises))
-      (yes-and (small most-v (P .low i) && small most-v (P .high i)) (leZ (P .low i) (P .high i)) (yes-and (small most-v (P .low i)) (small most-v (P .high i)) (size-small 102999999 (P .low i) (f .low)) (size-small 102999999 (P .high i) (f .high))) (f .order .le))
+      yes-and (between most-x (P .x i) && rises-to P i) ((between most-v (P .low i) && between most-v (P .high i)) && leZ (P .low i) (P .high i))
+      (yes-and (between most-x (P .x i)) (rises-to P i) (size-between most-x (P .x i) (f .input)) (f .rises))
+      (yes-and (between most-v (P .low i) && between most-v (P .high i)) (leZ (P .low i) (P .high i)) (yes-and (between most-v (P .low i)) (between most-v (P .high i)) (size-between most-v (P .low i) (f .low)) (size-between most-v (P .high i) (f .high))) (f .order .le))
 
 -- ---- a band
 pub admits-admitted : (g : Band) → T (admits g) → Admitted g

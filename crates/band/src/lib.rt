@@ -1,13 +1,12 @@
 // At each of m rising inputs a lowest and a highest value, which count units of 1/d.
-ghost use mathlib.Core.Bool.{_&&_};
 ghost use mathlib.Core.Path.{_≡_};
 ghost use Prim.Native.Nat.{_<_, _≤_};
-ghost use lib.IntN.{pos, negℤ};
 ghost use lib.ListN.{getD};
 ghost use lib.Signed.{leZ, ltZ};
 ghost use Rattle.whole.specs.Every.{every};
-ghost use Rattle.band.specs.Band.{points, no-input, no-sum, most-x, most-v};
-ghost use Rattle.band.specs.Admit.{small, rises-to, point-ok, admits, level};
+ghost use Rattle.whole.specs.Between.{between};
+ghost use Rattle.band.specs.Band.{points, no-input, no-sum, most-v};
+ghost use Rattle.band.specs.Admit.{rises-to, point-ok, admits, level};
 
 pub mod search;
 
@@ -43,24 +42,11 @@ pub fn high_at(g: Band, i: usize) -> Sum
     g.high[i]
 }
 
-fn both(a: bool, b: bool) -> bool
-    ensures { λ r. ⌜ r ≡ a && b ⌝ }
-{
-    if a { b } else { false }
-}
-
-fn small_input(v: Input) -> bool
-    ensures { λ r. ⌜ r ≡ small most-x (v .count) ⌝ }
-{
-    let z = v.count;
-    both(-30000 <= z, z <= 30000)
-}
-
 fn small_sum(v: Sum) -> bool
-    ensures { λ r. ⌜ r ≡ small most-v (v .count) ⌝ }
+    ensures { λ r. ⌜ r ≡ between most-v (v .count) ⌝ }
 {
     let z = v.count;
-    both(-103000000 <= z, z <= 103000000)
+    limits::both(-103000000 <= z, z <= 103000000)
 }
 
 fn below(a: Input, b: Input) -> bool
@@ -95,9 +81,12 @@ fn point_fine(g: Band, i: usize) -> bool
 {
     let low = low_at(g, i);
     let high = high_at(g, i);
-    both(
-        both(small_input(input_at(g, i)), rises(g, i)),
-        both(both(small_sum(low), small_sum(high)), not_above(low, high)),
+    limits::both(
+        limits::both(limits::in_x(input_at(g, i)), rises(g, i)),
+        limits::both(
+            limits::both(small_sum(low), small_sum(high)),
+            not_above(low, high),
+        ),
     )
 }
 
@@ -109,7 +98,7 @@ fn points_fine(g: Band) -> bool
     let mut ok = true;
     let mut i = 0;
     while i < m {
-        ok = both(point_fine(g, i), ok);
+        ok = limits::both(point_fine(g, i), ok);
         i += 1;
     }
     ok
@@ -121,7 +110,10 @@ pub fn is_admitted(g: Band) -> bool
 {
     let m = g.m;
     let d = g.d;
-    if both(both(3 <= m, m <= 11), both(1 <= d, d <= 200)) {
+    if limits::both(
+        limits::both(3 <= m, m <= 11),
+        limits::both(1 <= d, d <= 200),
+    ) {
         points_fine(g)
     } else {
         false
@@ -137,7 +129,7 @@ pub fn is_level(g: Band) -> bool
     let mut ok = true;
     let mut i = 0;
     while i < m {
-        ok = both(not_above(high_at(g, i), low_at(g, i)), ok);
+        ok = limits::both(not_above(high_at(g, i), low_at(g, i)), ok);
         i += 1;
     }
     ok

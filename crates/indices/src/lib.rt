@@ -1,6 +1,6 @@
 // The averages and the seven indices of a run.
 ghost use mathlib.Core.Path.{_≡_};
-ghost use Prim.Native.Nat.{_*_, _<_, _≤_};
+ghost use Prim.Native.Nat.{_*_, _≤_};
 ghost use lib.Dec.{T};
 ghost use lib.IntN.{pos, natAbs, _-ℤ_};
 ghost use lib.Signed.{_≤ℤ_};
@@ -229,7 +229,7 @@ pub fn index_of(which: Index, r: Run) -> Answer
         return refuse(v.number, v.place);
     }
     let n = r.n;
-    if run::both(is_scatter(which), n == 1) {
+    if limits::both(is_scatter(which), n == 1) {
         return refuse(13, 0);
     }
     given(which, r)

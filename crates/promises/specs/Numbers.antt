@@ -11,8 +11,9 @@ use Rattle.whole.specs.Flags.{cond-ind}
 use Rattle.exact.specs.Value.{nought}
 use Rattle.exact.specs.Rounding.{Nearest}
 use Rattle.exact.specs.declared.Fraction.{Fraction}
+use Rattle.limits.specs.Limits.{sizes}
 use Rattle.run.specs.Run.{zeros}
-use Rattle.run.specs.Limits.{sizes, fails-at, fine, shape, verdict}
+use Rattle.run.specs.Limits.{fails-at, fine, shape, verdict}
 use Rattle.run.specs.declared.Run.{Run}
 use Rattle.run.specs.declared.Verdict.{Verdict}
 use Rattle.run.specs.declared.Rule.the-variants.{Limits, Rising, Calm}

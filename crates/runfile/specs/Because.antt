@@ -5,7 +5,8 @@ use mathlib.Core.List.{List, [], _∷_}
 use Prim.Native.Nat.{ℕ, _<_}
 use lib.Dec.{T}
 use lib.ListN.{length}
-use Rattle.run.specs.Limits.{sizes, fails-at}
+use Rattle.limits.specs.Limits.{sizes}
+use Rattle.run.specs.Limits.{fails-at}
 use Rattle.run.specs.declared.Rule.the-variants.{Rising, Calm}
 use Rattle.record.specs.Record.{record-at}
 use Rattle.reader.specs.Walk.{inside, in-limits, again}

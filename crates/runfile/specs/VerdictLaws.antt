@@ -11,9 +11,10 @@ use mir.Facts.{and-yes, yes-and}
 use Rattle.whole.specs.Flags.{yes-T, T-yes}
 use Rattle.whole.specs.Between.{between-size}
 use Rattle.whole.specs.Every.{every-holds, every-by, first-not, first-not-is}
+use Rattle.limits.specs.Limits.{sizes, in-x, in-y}
+use Rattle.limits.specs.Laws.{sizes-within}
 use Rattle.run.specs.Run.{input, reading}
-use Rattle.run.specs.Limits.{sizes, in-x, in-y, stroke-in-limits, holds, fails-at, fine, shape, verdict}
-use Rattle.run.specs.Laws.{sizes-within}
+use Rattle.run.specs.Limits.{stroke-in-limits, holds, fails-at, fine, shape, verdict}
 use Rattle.run.specs.declared.Run.{Run}
 use Rattle.run.specs.declared.Verdict.{Verdict}
 use Rattle.run.specs.declared.Rule.the-variants.{Limits, Rising, Calm}

@@ -3,10 +3,11 @@ use mathlib.Core.Path.{ap, ap₂, _∙_}
 use mathlib.Core.Bool.{_&&_}
 use borrow.Author.Needs.{needs}
 use lib.Signed.{leZ}
+use Rattle.whole.specs.Between.{between}
 use Rattle.units.specs.declared.Input.{Input}
 use Rattle.units.specs.declared.Sum.{Sum}
-use Rattle.band.specs.Band.{most-x, most-v}
-use Rattle.band.specs.Admit.{small}
+use Rattle.limits.specs.Limits.{in-x}
+use Rattle.band.specs.Band.{most-v}
 use Rattle.band.proofs.point_fine.Statement.{statement}
 use Rattle.band.proofs.point_fine.Tie as tie
 
@@ -19,8 +20,8 @@ high-at-requires c κs = search needs
 input-at-requires : tie.Need-input-at-requires
 input-at-requires c κs = search needs
 
-small-input-requires : tie.Need-small-input-requires
-small-input-requires c κs = search needs
+in-x-requires : tie.Need-in-x-requires
+in-x-requires c κs = search needs
 
 rises-requires : tie.Need-rises-requires
 rises-requires c κs = search needs
@@ -56,10 +57,10 @@ returns c =
     let low = high .before in
     c .both4 .ensures
     ∙ ap₂ _&&_
-    (input .both .ensures ∙ ap₂ _&&_ (read .small-input .ensures ∙ ap (λ (v : Input). small most-x (v .count)) (read .before .input-at .ensures)) (input .before .rises .ensures))
+    (input .both .ensures ∙ ap₂ _&&_ (read .in-x .ensures ∙ ap (λ (v : Input). in-x (v .count)) (read .before .input-at .ensures)) (input .before .rises .ensures))
     (c .before .both3 .ensures
     ∙ ap₂ _&&_
-    (values .both2 .ensures ∙ ap₂ _&&_ (values .before .before .small-sum .ensures ∙ ap (λ (v : Sum). small most-v (v .count)) (low .low-at .ensures)) (values .before .small-sum2 .ensures ∙ ap (λ (v : Sum). small most-v (v .count)) (high .high-at .ensures)))
+    (values .both2 .ensures ∙ ap₂ _&&_ (values .before .before .small-sum .ensures ∙ ap (λ (v : Sum). between most-v (v .count)) (low .low-at .ensures)) (values .before .small-sum2 .ensures ∙ ap (λ (v : Sum). between most-v (v .count)) (high .high-at .ensures)))
     (order .not-above .ensures ∙ ap₂ (λ (a b : Sum). leZ (a .count) (b .count)) (low .low-at .ensures) (high .high-at .ensures)))
 
 pub point-fine-spec : {M : Type 1} → statement M
@@ -69,7 +70,7 @@ point-fine-spec =
     low-at-requires
     high-at-requires
     input-at-requires
-    small-input-requires
+    in-x-requires
     rises-requires
     both-requires
     small-sum-requires

@@ -1,4 +1,4 @@
--- `band::small_sum` meets its contract: what lies in the struct's bits is the number itself, and the two flags are `small`.
+-- `band::small_sum` meets its contract: what lies in the struct's bits is the number itself, and the two flags are `between`.
 use mathlib.Core.Path.{_≡_, _∙_}
 use borrow.Author.Needs.{needs}
 use Rattle.whole.specs.Machine.{stored}
