@@ -10,6 +10,7 @@ use lib.Signed.{_≤ℤ_, _<ℤ_}
 use mir.Syntax.{w64}
 use mir.Val.{SFits, toZ, ofZ}
 use mir.Facts.{toZ-ofZ, T-not, or-yes}
+use Rattle.whole.specs.Flags.{same-test}
 use Rattle.whole.specs.Every.{FirstNot}
 use Rattle.whole.specs.Poly.{var, lit, _⊗_}
 use Rattle.whole.specs.Ring.{ring}
@@ -40,16 +41,10 @@ is-same a b e = subst (λ (z : ℤ). T (same-number a z)) e (itself a)
     itself (pos n) = eqb-refl n
     itself (negsuc n) = eqb-refl n
 
-both-ways : (a b : Bool) → (T a → T b) → (T b → T a) → a ≡ b
-both-ways true true f g = refl
-both-ways true false f g = absurd (f tt)
-both-ways false true f g = absurd (g tt)
-both-ways false false f g = refl
-
 -- the code compares bits
 pub same-bits : (p q : ℤ) → SFits w64 p → SFits w64 q → eqb (ofZ w64 p) (ofZ w64 q) ≡ same-number p q
 same-bits p q f g =
-    both-ways (eqb (ofZ w64 p) (ofZ w64 q)) (same-number p q)
+    same-test (eqb (ofZ w64 p) (ofZ w64 q)) (same-number p q)
     (λ t. is-same p q (sym (toZ-ofZ f) ∙ ap (toZ w64) (eqb→eq (ofZ w64 p) (ofZ w64 q) t) ∙ toZ-ofZ g))
     (λ t. subst (λ (z : ℤ). T (eqb (ofZ w64 p) (ofZ w64 z))) (same-is p q t) (eqb-refl (ofZ w64 p)))
 

@@ -1,13 +1,13 @@
 -- A run without fault: its sizes, its limits, its order and scatter.
 use mathlib.Core.Path.{_≡_, refl, ap}
 use mathlib.Core.Bool.{Bool, true, false, cond, _&&_}
-use Prim.Native.Nat.{ℕ, zero, suc, _<_, _≤_}
+use Prim.Native.Nat.{ℕ, _<_, _≤_}
 use native.Mathlib.Omega.{arith}
 use native.Mathlib.Decide.{decLt}
-use borrow.Author.Tests.{le-ltb, ltb-false}
+use borrow.Author.Tests.{le-ltb}
 use lib.Dec.{T, ltb}
 use lib.IntN.{natAbs}
-use mir.Facts.{and-yes, yes-and}
+use mir.Facts.{yes-and}
 use Rattle.whole.specs.Flags.{yes-T, T-yes}
 use Rattle.whole.specs.Between.{between-size}
 use Rattle.whole.specs.Every.{every-holds, every-by, first-not, first-not-is}
@@ -15,6 +15,7 @@ use Rattle.limits.specs.Limits.{sizes, in-x, in-y}
 use Rattle.limits.specs.Laws.{sizes-within}
 use Rattle.run.specs.Run.{input, reading}
 use Rattle.run.specs.Limits.{stroke-in-limits, holds, fails-at, fine, shape, verdict}
+use Rattle.run.specs.Checked.{within-limits}
 use Rattle.run.specs.declared.Run.{Run}
 use Rattle.run.specs.declared.Verdict.{Verdict}
 use Rattle.run.specs.declared.Rule.the-variants.{Limits, Rising, Calm}
@@ -37,9 +38,6 @@ never-fails k p h = le-ltb (first-not k p) k (go (decLt (first-not k p) k))
     go (yes l) = absurd (first-not-is k p .fails l (h (first-not k p) l))
     go (no l) = omega arith
 
-holds-all : (k : ℕ) (p : ℕ → Bool) → ltb (first-not k p) k ≡ false → (i : ℕ) → i < k → T (p i)
-holds-all k p e i h = first-not-is k p .before i (omega (arith, ltb-false (first-not k p) k e))
-
 pub fine-by : (r : Run) → Fine r → verdict r ≡ fine
 fine-by r f = rw (f .sized, never-fails (r .m) (holds Limits r) limits, f .shaped)
   where
@@ -54,22 +52,14 @@ fine-by r f = rw (f .sized, never-fails (r .m) (holds Limits r) limits, f .shape
 pub fine-of : (r : Run) → verdict r ≡ fine → Fine r
 fine-of r = go (sizes (r .m) (r .n)) (ltb (fails-at Limits r) (r .m)) refl refl
   where
-    limits : ltb (fails-at Limits r) (r .m) ≡ false → (i : ℕ) → i < r .m → T (in-x (input r i)) × T (stroke-in-limits r 0 i && stroke-in-limits r 1 i)
-    limits e i h = and-yes (in-x (input r i)) (stroke-in-limits r 0 i && stroke-in-limits r 1 i) (holds-all (r .m) (holds Limits r) e i h)
-
-    stroke : ltb (fails-at Limits r) (r .m) ≡ false → (s i : ℕ) → s < 2 → i < r .m → T (stroke-in-limits r s i)
-    stroke e zero i hs hi = and-yes (stroke-in-limits r 0 i) (stroke-in-limits r 1 i) (limits e i hi .1) .0
-    stroke e (suc zero) i hs hi = and-yes (stroke-in-limits r 0 i) (stroke-in-limits r 1 i) (limits e i hi .1) .1
-    stroke e (suc (suc s)) i hs hi = absurd (omega arith)
-
     go : (a b : Bool) → sizes (r .m) (r .n) ≡ a → ltb (fails-at Limits r) (r .m) ≡ b
         → cond a (cond b (record { number = 5; place = fails-at Limits r }) (shape r)) (record { number = 3; place = 0 }) ≡ fine → Fine r
     go true true ea eb e = let z : _≡_ {A = ℕ} 5 0 = ap (λ (v : Verdict). v .number) e in absurd (omega arith)
     go true false ea eb e =
         record {
           sized = ea;
-          inputs = λ i h. T-yes (limits eb i h .0);
-          readings = λ s c i hs hc hi. T-yes (every-holds (r .n) (λ c. in-y (reading r s c i)) (stroke eb s i hs hi) c hc);
+          inputs = λ i h. T-yes (within-limits r eb i h .0);
+          readings = λ s c i hs hc hi. T-yes (every-holds (r .n) (λ c. in-y (reading r s c i)) (within-limits r eb i hi .1 s hs) c hc);
           shaped = e;
         }
     go false b ea eb e = let z : _≡_ {A = ℕ} 3 0 = ap (λ (v : Verdict). v .number) e in absurd (omega arith)
