@@ -4,7 +4,7 @@ ghost use mathlib.Core.Path.{_≡_};
 ghost use Prim.Native.Nat.{_+_, _<_, _≤_};
 ghost use lib.Dec.{T};
 ghost use lib.IntN.{pos, natAbs, _+ℤ_, _-ℤ_, _*ℤ_};
-ghost use lib.Signed.{_≤ℤ_, _<ℤ_, ltZ, leZ};
+ghost use lib.Signed.{ltZ, leZ};
 ghost use Rattle.whole.specs.Every.{FirstNot};
 ghost use Rattle.whole.specs.Machine.{Bounds};
 ghost use Rattle.band.specs.Band.{points, most-x, most-v, Admitted};

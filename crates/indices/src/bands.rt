@@ -115,7 +115,7 @@ pub fn band_of(t: Through, r: Run) -> Band
     }
 }
 
-// The size of a sum.
+// How far two sums lie apart.
 fn distance(a: Sum, b: Sum) -> Sum
     requires { ⌜ (natAbs (a .count) ≤ 20000000) × (natAbs (b .count) ≤ 20000000) ⌝ }
     ensures { λ s. ⌜ s .count ≡ pos (natAbs (a .count -ℤ b .count)) ⌝ }

@@ -1,7 +1,6 @@
-// The averages and the seven indices of a run.
+// The seven indices of a run.
 ghost use mathlib.Core.Path.{_≡_};
 ghost use Prim.Native.Nat.{_*_, _≤_};
-ghost use lib.Dec.{T};
 ghost use lib.IntN.{pos, natAbs, _-ℤ_};
 ghost use lib.Signed.{_≤ℤ_};
 ghost use Rattle.exact.specs.Rounding.{Nearest, Told};

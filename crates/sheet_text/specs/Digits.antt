@@ -1,4 +1,4 @@
--- Whole numbers and fractions as text, in ASCII (the paper, "What any program prints"). Definitions only.
+-- Whole numbers and fractions as text, in ASCII (the paper, "In what any program prints"). Definitions only.
 use mathlib.Core.Bool.{cond}
 use mathlib.Core.List.{List, [], _∷_, _++_}
 use Prim.Native.Nat.{ℕ, zero, suc, _+_, _/_, _%_}
