@@ -9,14 +9,20 @@ from requests import INDICES, SHEET, file_request, lent, run_request
 from second import sheet
 from second.sheet import NAMES, Answer, Bench, text
 
-ROOM = 700
+# more than any sheet has: none is longer than 831 bytes
+ROOM = 900
 FOLDER = os.path.join(os.path.dirname(os.path.dirname(os.path.abspath(__file__))), 'runs')
 
-# The figures to meet, typed from the paper: the sample's sheet, ...
+# The fields of a refused index of which nothing stands; under 11 and 12 some do.
+NOTHING = {'place': '0', 'width': '0/1', 'slope': '0/1', 'offset': '0/1', 'index': '0/1', 'thousandths': '0'}
+
+# The figures to meet, typed from the paper, and those of zero and front from C-11 and worked by hand in runs/: the sample's sheet, ...
 SAMPLE_SHEET = b'''points 3 cycles 2
 terminal 97/2000 4.850
 shifted 97/4000 2.425
 independent 97/4000 2.425
+zero 32/969 3.302
+front 97/2903 3.341
 hysteresis 1/200 0.500
 repeatability 9/1000 0.900
 lh 13/500 2.600
@@ -29,14 +35,22 @@ FIGURES = [
     ('a4', 'terminal', {'number': '0', 'index': '69/5015', 'thousandths': '1376'}),
     ('a4', 'shifted', {'number': '0', 'index': '97/10030', 'thousandths': '967'}),
     ('a4', 'independent', {'number': '0', 'index': '9/1010', 'thousandths': '891'}),
+    ('a4', 'zero', {'number': '0', 'width': '10/1', 'slope': '200/1', 'offset': '0/1', 'index': '1/100', 'thousandths': '1000'}),
+    ('a4', 'front', {'number': '0', 'width': '72/7', 'slope': '1396/7', 'offset': '18/7', 'index': '18/1745', 'thousandths': '1032'}),
     ('a1', 'terminal', {'number': '0', 'index': '206/24985', 'thousandths': '824'}),
     ('a1', 'independent', {'number': '0', 'index': '4/745', 'thousandths': '537'}),
+    ('a1', 'zero', {'number': '0', 'width': '28/1', 'slope': '996/1', 'offset': '0/1', 'index': '7/1245', 'thousandths': '562'}),
+    ('a1', 'front', {'number': '0', 'width': '137/5', 'slope': '4974/5', 'offset': '3/1', 'index': '137/24870', 'thousandths': '551'}),
     ('lh single', 'lh', {'number': '0', 'place': '0', 'slope': '10/1', 'offset': '6/1', 'index': '3/100'}),
-    ('lh not single', 'lh', {'number': '12', 'place': '0', 'width': '6/1', 'slope': '0/1', 'offset': '0/1', 'index': '0/1', 'thousandths': '0'}),
-    ('zeros', 'independent', {'number': '11', 'place': '0', 'width': '0/1', 'slope': '0/1', 'offset': '0/1', 'index': '0/1', 'thousandths': '0'}),
+    ('lh not single', 'lh', {**NOTHING, 'number': '12', 'width': '6/1'}),
+    ('zeros', 'independent', {'number': '11', **NOTHING}),
+    ('zeros', 'zero', {'number': '11', **NOTHING}),
+    ('zeros', 'front', {'number': '11', **NOTHING}),
     ('sample', 'terminal', {'number': '0', 'index': '97/2000', 'thousandths': '4850'}),
     ('sample', 'shifted', {'number': '0', 'index': '97/4000', 'thousandths': '2425'}),
     ('sample', 'independent', {'number': '0', 'index': '97/4000', 'thousandths': '2425'}),
+    ('sample', 'zero', {'number': '0', 'width': '64/1', 'slope': '969/10', 'offset': '0/1', 'index': '32/969', 'thousandths': '3302'}),
+    ('sample', 'front', {'number': '0', 'width': '194/3', 'slope': '2903/30', 'offset': '2/1', 'index': '97/2903', 'thousandths': '3341'}),
     ('sample', 'hysteresis', {'number': '0', 'index': '1/200', 'thousandths': '500'}),
     ('sample', 'repeatability', {'number': '0', 'index': '9/1000', 'thousandths': '900'}),
     ('sample', 'lh', {'number': '0', 'index': '13/500', 'thousandths': '2600'}),
@@ -45,12 +59,25 @@ FIGURES = [
     ('c2', 'independent', {'number': '0', 'thousandths': '167'}),
     ('c2', 'hysteresis', {'number': '0', 'thousandths': '214'}),
     ('c2', 'lh', {'number': '0', 'thousandths': '239'}),
-    # ... of a4 seen in a mirror, which are those of a4, and of half a thousandth, which goes upwards.
+    # ... of a4 seen in a mirror, which are those of a4 but for the lines through a point at one side, of half a thousandth, which goes upwards, ...
     ('a4 falling', 'terminal', {'number': '0', 'index': '69/5015', 'thousandths': '1376'}),
     ('a4 falling', 'shifted', {'number': '0', 'index': '97/10030', 'thousandths': '967'}),
     ('a4 falling', 'independent', {'number': '0', 'index': '9/1010', 'thousandths': '891'}),
+    ('a4 falling', 'zero', {'number': '0', 'width': '1004/1', 'slope': '201/1', 'offset': '0/1', 'index': '1004/1005', 'thousandths': '99900'}),
+    ('a4 falling', 'front', {'number': '0', 'width': '69/7', 'slope': '-1418/7', 'offset': '9853/7', 'index': '69/7090', 'thousandths': '973'}),
     ('half', 'terminal', {'number': '0', 'index': '1/200000', 'thousandths': '1'}),
-] + [(name, index, {'number': '13', 'place': '0', 'width': '0/1', 'slope': '0/1', 'offset': '0/1', 'index': '0/1', 'thousandths': '0'}) for name in ('a1', 'a4', 'c2') for index in ('repeatability', 'lhr')]
+    # ... and of lines through the origin and the first point, in the head: a value at input zero that decides, a negative input, slope zero.
+    ('value 9 at zero', 'zero', {'number': '0', 'width': '10/1', 'slope': '10/1', 'offset': '0/1', 'index': '1/20', 'thousandths': '5000'}),
+    ('value 10 at zero', 'zero', {'number': '0', 'width': '10/1', 'slope': '10/1', 'offset': '0/1', 'index': '1/20', 'thousandths': '5000'}),
+    ('value 11 at zero', 'zero', {**NOTHING, 'number': '12', 'width': '11/1'}),
+    ('value 50 at zero', 'zero', {**NOTHING, 'number': '12', 'width': '50/1'}),
+    ('negative', 'zero', {'number': '15', **NOTHING}),
+    ('negative', 'front', {'number': '0', 'width': '4/3', 'slope': '149/15', 'offset': '13/3', 'index': '1/149', 'thousandths': '671'}),
+    ('negative and level', 'zero', {'number': '15', **NOTHING}),
+    ('negative and not single', 'zero', {'number': '15', **NOTHING}),
+    ('front level', 'front', {**NOTHING, 'number': '11', 'width': '10/1', 'offset': '100/1'}),
+    ('front level', 'independent', {'number': '0', 'slope': '-1/2'}),
+] + [(name, index, {'number': '13', **NOTHING}) for name in ('a1', 'a4', 'c2') for index in ('repeatability', 'lhr')]
 
 # The limits: the first line of the file's sheet, and number and place of every calculation of the run built by hand.
 LIMITS = [
@@ -69,6 +96,7 @@ SAMPLE_MEANS = ['averages 0 0', 'up 0/1 900/1 2000/1' + 8 * ' 0/1', 'down 4/1 91
 
 # Which numbers each index is to have been answered with.
 DUE_NUMBERS = {name: (0, 3, 5, 9, 10, 11) for name in NAMES}
+DUE_NUMBERS['zero'] += (12, 15)
 DUE_NUMBERS['repeatability'] += (13,)
 DUE_NUMBERS['lh'] += (12,)
 DUE_NUMBERS['lhr'] += (12, 13)
@@ -203,8 +231,8 @@ def named_files(files):
 
 
 def refusals_met(dues):
-    """How many sheets had each refusal: 1 to 10 as the only line, 11 to 13 in the line of an index."""
-    met = dict.fromkeys(range(1, 14), 0)
+    """How many sheets had each refusal: 1 to 10 as the only line, 11 to 13 and 15 in the line of an index. 14 is the writer's."""
+    met = dict.fromkeys((*range(1, 14), 15), 0)
     for due in dues:
         fields = [line.split(' ') for line in due.decode('ascii').split('\n')[:-1]]
         indices = {int(line[2]) for line in fields if line[0] in NAMES and line[1] == 'refused'}
@@ -227,8 +255,8 @@ def counts_text(counts):
 
 
 def program_files(files, dues):
-    """About thirty files for the program itself: named ones, one of each refusal, shuffled ones, and two of 5,000 bytes."""
-    chosen = ['sample', 'a1', 'a4', 'c2', 'lh single', 'lh not single', 'zeros', 'a4 falling', 'half', 'empty', 'widest scatter, 10 cycles, 1', 'longest with 1000 bytes behind', 'rubbish of 4096 bytes']
+    """About thirty-five files for the program itself: named ones, one of each refusal, shuffled ones, and two of 5,000 bytes."""
+    chosen = ['sample', 'a1', 'a4', 'c2', 'lh single', 'lh not single', 'zeros', 'a4 falling', 'half', 'value 10 at zero', 'value 11 at zero', 'negative', 'front level', 'empty', 'widest scatter, 10 cycles, 1', 'longest with 1000 bytes behind', 'rubbish of 4096 bytes']
     where = named_files(files)
     picked = [where[name] for name in chosen]
     for number in range(1, 11):

@@ -28,21 +28,30 @@ def named():
     yield 'lh single', one_cycle([0, 10, 20], [0, 100, 200], [0, 112, 200])
     yield 'lh not single', one_cycle([0, 10, 20], [0, 96, 200], [0, 108, 200])
     yield 'zeros', one_cycle([0, 10, 20], [0, 0, 0])
-    # the mirror image of a4: every index is that of a4
+    # the mirror image of a4: every index is that of a4 but the two whose line goes through a point at one side
     yield 'a4 falling', one_cycle([1, 2, 3, 4, 5, 6], a4[::-1])
     # terminal width 1 over 200,000: half a thousandth
     yield 'half', one_cycle([0, 10, 20], [0, 100001, 200000])
+    # beyond zero the line is 10 times the input, with width 10: the value at zero is within it, on it, and more
+    for value in (9, 10, 11, 50):
+        yield 'value %d at zero' % value, one_cycle([0, 10, 20], [value, 90, 210])
+    yield 'negative', one_cycle([-10, 0, 10], [-95, 3, 105])
+    # lines through the origin, were they told here: the best one is level, and more than one is best
+    yield 'negative and level', one_cycle([-10, 0, 10], [20, 1, 20])
+    yield 'negative and not single', one_cycle([-10, 0, 10], [-100, 50, 100])
+    # the independent line falls by 5 from point to point, the front line not at all
+    yield 'front level', one_cycle([10, 20, 30], [100, 110, 90])
 
 
 def held(value, limit=Y_LIMIT):
     return max(-limit, min(limit, round(value)))
 
 
-def sensor(make, m, n, gain, bend=0.01, gap=0.004, scatter=0.001):
-    """A sensor of a bench: nearly a line, bent, wider on the down stroke, scattered; the last three as parts of its full span."""
+def sensor(make, m, n, gain, bend=0.01, gap=0.004, scatter=0.001, shift=500):
+    """A sensor of a bench: nearly a line, bent, wider on the down stroke, scattered, these three as parts of its full span; at input zero it is off zero by at most the shift, beside gap and scatter."""
     step = make.choice((1, 2, 10, 500))
     x = [i * step + (make.randrange(step // 5 + 1) if make.random() < 0.3 else 0) for i in range(m)]
-    full, zero = abs(gain) * x[-1], make.randint(-500, 500)
+    full, zero = abs(gain) * x[-1], make.randint(-shift, shift)
     bend, gap = make.uniform(-bend, bend) * full, make.uniform(0, gap) * full
     loose = min(scatter * full, SCATTER / 2 - 1)
 
@@ -215,9 +224,112 @@ def large_figures(make):
         yield 'nearly level %d' % which, with_reading(run, (make.randrange(2), make.randrange(n), make.choice((0, m - 1))), make.choice((-1, 1)))
 
 
+def moved(run, by):
+    """The run with every input moved."""
+    return Run(run.m, run.n, {i: x + by for i, x in run.x.items()}, run.y)
+
+
+def first_inputs(make):
+    """A bench sensor with its first input on either side of zero and at it, with some inputs negative, with all, and with none near zero."""
+    for which in range(40):
+        m, n = make.choice((3, 3, 4, 5, 6, 8)), make.choice((1, 2, 3))
+        run = sensor(make, m, n, make.choice((1, -1)) * gain_for(make, m), shift=make.choice((0, 2, 500)))
+        for first in (-1, 0, 1):
+            yield 'first input of %d, %d' % (first, which), moved(run, first - run.x[0])
+        middle, last = run.x[make.randrange(1, m - 1)], run.x[m - 1]
+        yield 'some inputs negative %d' % which, moved(run, -middle - make.choice((0, 1)))
+        yield 'all inputs negative but the last %d' % which, moved(run, -last)
+        yield 'all inputs negative %d' % which, moved(run, -last - make.choice((1, 300)))
+        yield 'inputs beyond zero %d' % which, moved(run, make.choice((2, 50, 3000)))
+
+
+def through_zero(make):
+    """Bench sensors that are zero at zero or nearly so, rising and falling, of every number of points."""
+    for which in range(150):
+        m, n = size(make)
+        gain = gain_for(make, m) * make.choice((1, -1))
+        yield 'through zero %d' % which, sensor(make, m, n, gain, make.choice((0.001, 0.01, 0.1)), shift=make.choice((0, 0, 1, 20)))
+
+
+def balanced(make, far, slope, width):
+    """A value for each distance from a point: the best line through that point has this slope and width, for two points beyond it deviate oppositely by the width and no other one by more."""
+    off = [make.randint(-width, width) for _ in far]
+    high, low = make.sample([i for i, at in enumerate(far) if at], 2)
+    off[high], off[low] = width, -width
+    return [slope * at + by for at, by in zip(far, off)]
+
+
+def on_both_strokes(make, x, values):
+    """A run of these means of both strokes, up to three cycles, with a gap between the strokes."""
+    gap = make.choice((0, 0, 1, 30))
+    return same_each_cycle(x, [v - gap for v in values], [v + gap for v in values], make.randint(1, 3))
+
+
+def rising(make, m, first):
+    """m inputs from the first one on, evenly or not."""
+    step = make.choice((1, 3, 10))
+    return [first] + sorted(make.sample(range(first + 1, first + 1 + step * m), m - 1))
+
+
+def value_at_zero(make):
+    """An input at zero: its value is zero, within the width of the rest by one and by one sum unit, on it, more by one and by one sum unit, and by far. The slope of the rest is often zero."""
+    for which in range(50):
+        m, width, side = make.choice((3, 3, 4, 5, 7)), make.choice((1, 2, 9, 400)), make.choice((1, -1))
+        x = rising(make, m, 0)
+        values = balanced(make, x, make.choice((0, 0, 1, -1, 7, -40)), width)
+        for what, at_zero in (('zero', 0), ('one less', width - 1), ('equal', width), ('one more', width + 1), ('far more', 3 * width + 50)):
+            yield 'value at zero %s %d' % (what, which), on_both_strokes(make, x, [side * at_zero] + values[1:])
+        equal = on_both_strokes(make, x, [side * width] + values[1:])
+        for what, by in (('less', -side), ('more', side)):
+            place = make.randrange(2), make.randrange(equal.n), 0
+            yield 'value at zero a sum unit %s %d' % (what, which), with_reading(equal, place, equal.y[place] + by)
+
+
+def balanced_beyond(make):
+    """The lines through the origin with every input beyond it, and those through the first point, with the slope often zero, or all but zero."""
+    for which in range(60):
+        m, width, slope = make.choice((3, 3, 4, 5, 7)), make.choice((0, 1, 5, 300)), make.choice((0, 0, 0, 1, -1, 25))
+        x = rising(make, m, make.choice((1, 2, 40)))
+        beyond_zero = on_both_strokes(make, x, balanced(make, x, slope, width))
+        yield 'balanced beyond zero %d' % which, beyond_zero
+        first, value = make.choice((-40, -3, 0, 0, 1, 25)), make.choice((0, 5, -80, 1000))
+        at = rising(make, m, first)
+        behind_front = balanced(make, [v - first for v in at], slope, width)
+        front = on_both_strokes(make, at, [value] + [value + v for v in behind_front[1:]])
+        yield 'balanced behind the front %d' % which, front
+        for what, run in (('beyond zero', beyond_zero), ('behind the front', front)):
+            place = make.randrange(2), make.randrange(run.n), make.randrange(1, run.m)
+            yield 'nearly balanced %s %d' % (what, which), with_reading(run, place, run.y[place] + make.choice((1, -1)))
+
+
+def tiny_from_zero(make):
+    """Few points and small numbers at and beyond zero, where values are often alike and two pairs of points often equally wide."""
+    for which in range(250):
+        m, n, most = make.choice((3, 3, 3, 4, 5)), make.choice((1, 1, 2)), make.choice((1, 2, 5, 20))
+        x = rising(make, m, make.choice((0, 0, 0, 1, 2)))
+        up, down = ([[make.randint(-most, most) for _ in range(m)] for _ in range(n)] for _ in (0, 1))
+        yield 'tiny from zero %d' % which, run_of(x, up, down)
+    for which in range(20):
+        values = make.sample((-9, -4, 0, 0, 6, 8), 2)
+        for at in range(3):
+            alike = [values[0]] * 3
+            alike[at] = values[1]
+            yield 'two values alike %d, %d' % (which, at), one_cycle(rising(make, 3, make.choice((0, 1))), alike)
+
+
+def large_from_zero(make):
+    """Large figures without negative inputs: the longest fractions of the lines through the origin and through the first point."""
+    for which in range(60):
+        m, n = make.choice((3, 3, 4, 5, 11)), make.choice((1, 3, 9, 10))
+        x = [make.choice((0, 1, 7))] + sorted(make.sample(range(X_LIMIT - 90, X_LIMIT + 1), m - 1))
+        far = [[make.choice((-1, 1)) * (Y_LIMIT - 100) for _ in range(m)] for _ in (0, 1)]
+        up, down = ([[v + make.randint(-100, 100) for v in far[s]] for _ in range(n)] for s in (0, 1))
+        yield 'large figures from zero %d' % which, run_of(x, up, down)
+
+
 def families(seed=18459):
     make = random.Random(seed)
-    for family in (every_size, falling, near_linear, once, level, not_single, between_one_and_many, tiny, extremes, large_figures):
+    for family in (every_size, falling, near_linear, once, level, not_single, between_one_and_many, tiny, extremes, large_figures, first_inputs, through_zero, value_at_zero, balanced_beyond, tiny_from_zero, large_from_zero):
         yield from family(make)
 
 
@@ -321,6 +433,12 @@ def two_rules(make):
     yield 'scatter twice', with_reading(loose, (1, 1, 4), base.y[1, 0, 4] - SCATTER - 2000)
     yield 'scatter of the down stroke first', with_reading(with_reading(base, (0, 1, 3), base.y[0, 0, 3] + SCATTER + 2000), (1, 1, 2), base.y[1, 0, 2] + SCATTER + 2000)
     yield 'one cycle and an input', with_point(sensor(make, 5, 1, 40), 4, -X_LIMIT - 1)
+    negative = moved(base, -base.x[2])
+    yield 'a negative input and m', Run(2, 3, negative.x, negative.y)
+    yield 'a negative input and a reading', with_reading(negative, (1, 2, 1), Y_LIMIT + 1)
+    yield 'negative inputs that do not rise', with_point(negative, 1, negative.x[0])
+    yield 'a negative input and scatter', with_reading(negative, (0, 1, 0), loose.y[0, 1, 0])
+    yield 'a negative input and one cycle', Run(5, 1, negative.x, negative.y)
 
 
 def rubbish_behind(run, make):

@@ -70,6 +70,93 @@ class ShiftedTerminal(Bench):
         return 'line', width, slope, offset
 
 
+class IndependentMovedToOrigin(Bench):
+    def zero_line(self):
+        band, slope = self.totals_band(), self.independent_line[2]
+        return 'line', lines.largest_off(list(zip(band.x, band.low)), slope * band.d) / band.d, slope, Fraction(0)
+
+
+class RestOfZero(Bench):
+    def rest(self):
+        """The best line through the origin for the points at every other input than zero."""
+        unit = 2 * self.run.n
+        points = [(x, t) for x, t in zip(self.inputs(), self.totals()) if x]
+        width, slope, _ = lines.through_origin(points)
+        return 'line', width / unit, slope / unit, Fraction(0)
+
+    def zero_line(self):
+        return self.rest()
+
+
+class LineOfTheRest(RestOfZero):
+    def zero_line(self):
+        """The right width, and the line of the rest where the value at input zero decides that width."""
+        return ('line', Bench.zero_line(self)[1]) + self.rest()[2:]
+
+
+class FrontAsTerminal(Bench):
+    def front_line(self):
+        return self.terminal_line()
+
+
+class FrontOfUpMeans(Bench):
+    def front_line(self):
+        # U/n in the unit of T/(2n)
+        return lines.through(self.totals_band(), self.inputs()[0], 2 * self.sums(UP)[0])
+
+
+def over_independent(bench, own):
+    """The width of an index over the full-span output of the independent line."""
+    return own if own.number else bench.measured(bench.independent_line, own.width)
+
+
+class ZeroOverIndependent(Bench):
+    def zero(self):
+        return over_independent(self, Bench.zero(self))
+
+
+class FrontOverIndependent(Bench):
+    def front(self):
+        return over_independent(self, Bench.front(self))
+
+
+class NegativeAllowed(Bench):
+    def barred(self, name):
+        return 0 if name == 'zero' else Bench.barred(self, name)
+
+    def zero_line(self):
+        return lines.through(self.totals_band(), 0, 0)
+
+
+class NegativeAfterTwelve(NegativeAllowed):
+    before = (12,)
+
+    def zero(self):
+        answer = NegativeAllowed.zero(self)
+        return refused(15) if self.negative_input() and answer.number not in self.before else answer
+
+
+class NegativeLast(NegativeAfterTwelve):
+    before = (12, 11)
+
+
+class NegativeBySize(NegativeAllowed):
+    def zero_line(self):
+        band = self.totals_band()
+        band.x = [abs(x) for x in band.x]
+        return lines.through(band, 0, 0)
+
+
+class NegativeBarsAll(Bench):
+    def barred(self, name):
+        return Bench.barred(self, 'zero') or Bench.barred(self, name)
+
+
+class ZeroTakenForNegative(Bench):
+    def negative_input(self):
+        return any(x <= 0 for x in self.inputs())
+
+
 class DividedByN(Bench):
     def bessel_divisor(self):
         return self.run.n
@@ -100,13 +187,26 @@ WRONG = [
     ('pairing the jth up reading of the file with the jth down reading', PairedByPlace, None),
     ('a terminal slope from the largest less the smallest output', LargestLessSmallestSlope, ('a4 falling', 1, None)),
     ('a full-span output of the largest less the smallest output', LargestLessSmallestSpan, None),
-    ('half the hysteresis', HalvedHysteresis, ('c2', 4, '0.107')),
+    ('half the hysteresis', HalvedHysteresis, ('c2', 6, '0.107')),
     ('rounding twice', RoundedTwice, ('a1', 1, '0.825')),
     ('rounding up', RoundedUp, ('a1', 1, '0.825')),
     ('cutting the percent', Cut, None),
     ('rounding a half downwards', HalfDownwards, ('half', 1, '0.000')),
     ('the least-squares line for the best one', LeastSquares, None),
     ('the shifted terminal line for the best one', ShiftedTerminal, None),
+    ('the independent line moved to the origin for the zero-based one', IndependentMovedToOrigin, ('sample', 4, '4.750')),
+    ('a zero-based width without the value at input zero', RestOfZero, ('value 50 at zero', 4, '5.000')),
+    ('the line of the rest where the value at input zero decides', LineOfTheRest, ('value 50 at zero', 4, '25.000')),
+    ('the terminal line for the front one', FrontAsTerminal, ('sample', 5, '4.850')),
+    ('the front line through the first up mean', FrontOfUpMeans, ('sample', 5, '3.302')),
+    ('a zero-based index over the full span of the independent line', ZeroOverIndependent, ('sample', 4, '3.200')),
+    ('a front index over the full span of the independent line', FrontOverIndependent, ('sample', 5, '3.233')),
+    ('a zero-based line for negative inputs too', NegativeAllowed, ('negative', 4, '2.500')),
+    ('a negative input taken by its size', NegativeBySize, ('negative', 4, '1000.000')),
+    ('15 given after 12', NegativeAfterTwelve, ('negative and not single', 4, '12')),
+    ('15 given after 12 and 11', NegativeLast, ('negative and level', 4, '11')),
+    ('15 for every index of a run with a negative input', NegativeBarsAll, ('negative', 1, '15')),
+    ('15 for an input at zero', ZeroTakenForNegative, ('sample', 4, '15')),
     ("dividing by n in Bessel's formula", DividedByN, None),
     ('the largest k at every limit point', LargestLimitEverywhere, None),
     ('the first cycle for all cycles', FirstCycleAlone, None),

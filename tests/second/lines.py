@@ -1,4 +1,4 @@
-"""Lines through points by another method than the bench's. The largest deviation, least over all offsets, is a convex function of the slope that turns only at the slopes of chords over highest values and over lowest values: it is tried at each of them."""
+"""Lines through points by another method than the bench's. The largest deviation, least over all offsets, is a convex function of the slope that turns only at the slopes of chords over highest values and over lowest values: it is tried at each of them. Of the lines through one point the largest deviation is a convex function of the slope as well, and turns only where two deviations are equally large: it is tried at each of these slopes."""
 from fractions import Fraction
 
 MOST_X, MOST_V, MOST_D = 30000, 103000000, 200
@@ -65,6 +65,49 @@ def shifted(band):
     _, _, slope, offset = drawn
     off = [Fraction(v, band.d) - slope * x - offset for x, v in zip(band.x[:band.m], band.low)]
     return 'line', (max(off) - min(off)) / 2, slope, offset + (max(off) + min(off)) / 2
+
+
+def crossings(points):
+    """The slopes of the lines through the origin at which two points deviate equally, or a point and another one oppositely, or one not at all."""
+    for which, (x, v) in enumerate(points):
+        for x_before, v_before in points[:which + 1]:
+            for rise, run in ((v - v_before, x - x_before), (v + v_before, x + x_before)):
+                if run:
+                    yield Fraction(rise, run)
+
+
+def largest_off(points, slope):
+    """The largest deviation from the line of a slope through the origin; counted in whole numbers of 1/q, as in at_slope."""
+    p, q = slope.numerator, slope.denominator
+    return Fraction(max(abs(v * q - p * x) for x, v in points), q)
+
+
+def through_origin(points):
+    """(width, lowest slope, highest slope): the least largest deviation of the lines through the origin, and the slopes that keep every point within it. A point at input zero deviates alike from all of them."""
+    width = min(largest_off(points, slope) for slope in set(crossings(points)))
+    kept = [sorted(((v - width) / x, (v + width) / x)) for x, v in points if x]
+    return width, max(low for low, _ in kept), min(high for _, high in kept)
+
+
+def through(band, x, v):
+    """The line through the point (x, v) whose largest deviation is least: the point is moved to the origin, and back."""
+    width, lowest, highest = through_origin([(at - x, value - v) for at, value in zip(band.x[:band.m], band.low)])
+    if lowest < highest:
+        return 'several', width / band.d
+    slope = lowest / band.d
+    return 'line', width / band.d, slope, Fraction(v, band.d) - slope * x
+
+
+def zero(band):
+    if not (admitted(band) and level(band)) or min(band.x[:band.m]) < 0:
+        return ('improper',)
+    return through(band, 0, 0)
+
+
+def front(band):
+    if not (admitted(band) and level(band)):
+        return ('improper',)
+    return through(band, band.x[0], band.low[0])
 
 
 def least_squares(band):

@@ -54,6 +54,10 @@ fn print_indices(r: Run) {
     print_answer(indices::index_of(Index::Shifted, r));
     io::write_all(STDOUT_FILENO, b"independent");
     print_answer(indices::index_of(Index::Independent, r));
+    io::write_all(STDOUT_FILENO, b"zero");
+    print_answer(indices::index_of(Index::Zero, r));
+    io::write_all(STDOUT_FILENO, b"front");
+    print_answer(indices::index_of(Index::Front, r));
     io::write_all(STDOUT_FILENO, b"hysteresis");
     print_answer(indices::index_of(Index::Hysteresis, r));
     io::write_all(STDOUT_FILENO, b"repeatability");

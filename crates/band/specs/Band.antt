@@ -1,10 +1,9 @@
 -- Bands: the points that a band stands for, and the bands that are admitted. Definitions only.
-use mathlib.Core.Path.{_≡_}
 use Prim.Native.Nat.{ℕ, _<_, _≤_}
 use lib.IntN.{natAbs}
 use lib.ListN.{getD}
 pub use Rattle.units.specs.Units.{no-input, no-sum}
-use Rattle.band.specs.Line.{Points, Proper}
+use Rattle.band.specs.Line.{Points, Proper, OneValue}
 use Rattle.band.specs.declared.Band.{Band}
 
 -- the points of a band
@@ -33,4 +32,4 @@ pub record Admitted (g : Band) : Type 0 where
 
 -- one value at each input
 abbrev pub Level : Band → Type 0
-Level g = (i : ℕ) → i < g .m → points g .low i ≡ points g .high i
+Level g = OneValue (points g)

@@ -8,7 +8,7 @@ use lib.IntN.{ℤ, pos, _-ℤ_, _*ℤ_}
 use lib.Signed.{_≤ℤ_, ≤ℤ-refl}
 use Rattle.whole.specs.Poly.{var, lit, _⊖_}
 use Rattle.whole.specs.Ring.{ring}
-use Rattle.band.specs.Line.{Line, Points, Proper, Within, Least, Single, All}
+use Rattle.band.specs.Line.{Line, Points, Proper, OneValue, Within, Least, Single, All}
 use Rattle.band.specs.Place.{Place, before, same, after, place}
 use Rattle.band.specs.Candidate.{Candidate, one, up, down, num, Fits, AtMost, Greatest, wide, part, part-some}
 use Rattle.band.specs.Width.{no-less}
@@ -39,7 +39,7 @@ module _ {P : Points} (proper : Proper P) where
   tied i g (down a b c) f other h = single-down proper g a b c f h
 
   -- with one value at each input no two lines reach it: all inputs are equal as candidates
-  pub all-single : ((i : ℕ) → i < P .m → P .low i ≡ P .high i) → (c : Candidate) → Greatest P c → Single All P (wide P c) (part P c)
+  pub all-single : OneValue P → (c : Candidate) → Greatest P c → Single All P (wide P c) (part P c)
   all-single value (up i j k) g = up-single proper i j k g
   all-single value (down i j k) g = down-single proper i j k g
   all-single value (one i) g = go (decLt 0 i)

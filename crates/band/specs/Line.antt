@@ -26,6 +26,10 @@ pub record Proper (P : Points) : Type 0 where
   pub rise : (i j : ℕ) → i < j → j < P .m → P .x i <ℤ P .x j
   pub order : (i : ℕ) → i < P .m → P .low i ≤ℤ P .high i
 
+-- one value at each input
+abbrev pub OneValue : Points → Type 0
+OneValue P = (i : ℕ) → i < P .m → P .low i ≡ P .high i
+
 -- how far the value v/d at the input x lies above the line, times q·d
 abbrev pub off : Points → Line → ℤ → ℤ → ℤ
 off P L x v = pos (L .q) *ℤ v -ℤ pos (P .d) *ℤ (L .a *ℤ x +ℤ L .b)
@@ -48,6 +52,18 @@ All L = Unit {0}
 -- the lines of L's slope
 abbrev pub Parallel : Line → Line → Type 0
 Parallel L M = M .a *ℤ pos (L .q) ≡ L .a *ℤ pos (M .q)
+
+-- the lines through the value v/d at the input x
+abbrev pub Passing : Points → (x v : ℤ) → Line → Type 0
+Passing P x v L = off P L x v ≡ pos 0
+
+-- through the origin (2.3.5.4)
+abbrev pub Zero : Points → Line → Type 0
+Zero P L = Passing P (pos 0) (pos 0) L
+
+-- through the first point, at which there is one value (2.3.5.5)
+abbrev pub Front : Points → Line → Type 0
+Front P L = Passing P (P .x 0) (P .low 0) L
 
 -- w/z is the least largest deviation in the family F: a line of F reaches it, and none has a smaller one
 pub record Least (F : Line → Type 0) (P : Points) (w z : ℕ) : Type 0 where
@@ -78,5 +94,5 @@ pub record Several (F : Line → Type 0) (P : Points) (w z : ℕ) : Type 0 where
 
 -- ---- the terminal line (2.3.5.2): it passes through the first and the last point, at each of which there is one value
 pub record Terminal (P : Points) (L : Line) : Type 0 where
-  pub first : off P L (P .x 0) (P .low 0) ≡ pos 0
-  pub last : off P L (P .x (P .m - 1)) (P .low (P .m - 1)) ≡ pos 0
+  pub first : Front P L
+  pub last : Passing P (P .x (P .m - 1)) (P .low (P .m - 1)) L

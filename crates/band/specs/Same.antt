@@ -6,11 +6,11 @@ use native.Mathlib.Nat.{mul-le-mul-right, le-of-mul-le-mul-left}
 use native.Mathlib.Omega.{arith}
 use lib.IntN.{ℤ, pos, natAbs, _+ℤ_, _-ℤ_, _*ℤ_}
 use lib.Signed.{_<ℤ_}
-use Rattle.whole.specs.Poly.{E, var, _⊕_, _⊖_, _⊗_}
+use Rattle.whole.specs.Poly.{E, var, lit, _⊕_, _⊖_, _⊗_}
 use Rattle.whole.specs.Ring.{ring}
-use Rattle.whole.specs.Sign.{Positive, lt-sign, positive-nat, positive-mul, cancel-eq}
+use Rattle.whole.specs.Sign.{Positive, lt-sign, positive-nat, positive-mul, cancel-zero, cancel-eq}
 use Rattle.whole.specs.Size.{size-product}
-use Rattle.band.specs.Line.{Line, Points, off, Within, Least, Same, Single, Several}
+use Rattle.band.specs.Line.{Line, Points, off, Passing, Within, Least, Same, Single, Several}
 use Rattle.band.specs.Seen.{offE}
 
 pub same-sym : {L M : Line} → Same L M → Same M L
@@ -74,28 +74,38 @@ agree-by P L M z t x v unit some e f = cancel-eq (positive-mul (positive-nat som
         let side : E → E → E = λ q r. q ⊗ (var 0 ⊗ (r ⊗ var 2) ⊖ var 3 ⊗ (r ⊗ var 1)) in
         ring (pos z ∷ d ∷ v ∷ t ∷ pos (L .q) ∷ pos (M .q) ∷ []) (side (var 5) (var 4)) (side (var 4) (var 5)) tt
 
--- ---- being within a deviation does not depend on how a line is written
-pub same-within : {P : Points} {L M : Line} {w z : ℕ} → Same L M → Within P L w z → Within P M w z
-same-within {P} {L} {M} {w} {z} e W = record { low = λ i h. go (P .x i) (P .low i) (W .low i h); high = λ i h. go (P .x i) (P .high i) (W .high i h) }
+-- two lines through one point agree there
+pub agree-passing : (P : Points) (L M : Line) (x v : ℤ) → 0 < P .d → Passing P x v L → Passing P x v M → Agree L M x
+agree-passing P L M x v unit e f = agree-by P L M 1 (pos 0) x v unit (omega arith) (none L e) (none M f)
+  where
+    none : (N : Line) → Passing P x v N → pos 1 *ℤ off P N x v ≡ pos 0 *ℤ pos (N .q * P .d)
+    none N h = ap (λ (t : ℤ). pos 1 *ℤ t) h ∙ ring (pos (N .q * P .d) ∷ []) (lit 1 ⊗ lit 0) (lit 0 ⊗ var 0) tt
+
+-- ---- how far a value lies off does not depend on how a line is written
+off-same : (P : Points) (x v : ℤ) {L M : Line} → Same L M → pos (L .q) *ℤ off P M x v ≡ pos (M .q) *ℤ off P L x v
+off-same P x v {L} {M} e =
+    scaled M (pos (L .q))
+    ∙ ap₂ (λ (s t : ℤ). pos (L .q) *ℤ pos (M .q) *ℤ v -ℤ d *ℤ (s *ℤ x +ℤ t)) (sym (e .slope)) (sym (e .offset))
+    ∙ ap (λ (s : ℤ). s *ℤ v -ℤ d *ℤ (L .a *ℤ pos (M .q) *ℤ x +ℤ L .b *ℤ pos (M .q))) (ring (pos (L .q) ∷ pos (M .q) ∷ []) (var 0 ⊗ var 1) (var 1 ⊗ var 0) tt)
+    ∙ sym (scaled L (pos (M .q)))
   where
     d : ℤ
     d = pos (P .d)
 
-    scaled : (N : Line) (r x v : ℤ) → r *ℤ off P N x v ≡ r *ℤ pos (N .q) *ℤ v -ℤ d *ℤ (N .a *ℤ r *ℤ x +ℤ N .b *ℤ r)
-    scaled N r x v = ring (pos (N .q) ∷ d ∷ N .a ∷ N .b ∷ x ∷ v ∷ r ∷ []) (var 6 ⊗ offE (var 0) (var 1) (var 2) (var 3) (var 4) (var 5)) (var 6 ⊗ var 0 ⊗ var 5 ⊖ var 1 ⊗ (var 2 ⊗ var 6 ⊗ var 4 ⊕ var 3 ⊗ var 6)) tt
+    scaled : (N : Line) (r : ℤ) → r *ℤ off P N x v ≡ r *ℤ pos (N .q) *ℤ v -ℤ d *ℤ (N .a *ℤ r *ℤ x +ℤ N .b *ℤ r)
+    scaled N r = ring (pos (N .q) ∷ d ∷ N .a ∷ N .b ∷ x ∷ v ∷ r ∷ []) (var 6 ⊗ offE (var 0) (var 1) (var 2) (var 3) (var 4) (var 5)) (var 6 ⊗ var 0 ⊗ var 5 ⊖ var 1 ⊗ (var 2 ⊗ var 6 ⊗ var 4 ⊕ var 3 ⊗ var 6)) tt
 
-    both : (x v : ℤ) → pos (L .q) *ℤ off P M x v ≡ pos (M .q) *ℤ off P L x v
-    both x v =
-        scaled M (pos (L .q)) x v
-        ∙ ap₂ (λ (s t : ℤ). pos (L .q) *ℤ pos (M .q) *ℤ v -ℤ d *ℤ (s *ℤ x +ℤ t)) (sym (e .slope)) (sym (e .offset))
-        ∙ ap (λ (s : ℤ). s *ℤ v -ℤ d *ℤ (L .a *ℤ pos (M .q) *ℤ x +ℤ L .b *ℤ pos (M .q))) (ring (pos (L .q) ∷ pos (M .q) ∷ []) (var 0 ⊗ var 1) (var 1 ⊗ var 0) tt)
-        ∙ sym (scaled L (pos (M .q)) x v)
+pub same-passing : (P : Points) (x v : ℤ) {L M : Line} → Same L M → Passing P x v L → Passing P x v M
+same-passing P x v {L} {M} e h = cancel-zero (positive-nat (L .some)) (off-same P x v e ∙ ap (λ (t : ℤ). pos (M .q) *ℤ t) h ∙ ring (pos (M .q) ∷ []) (var 0 ⊗ lit 0) (lit 0) tt)
 
+pub same-within : {P : Points} {L M : Line} {w z : ℕ} → Same L M → Within P L w z → Within P M w z
+same-within {P} {L} {M} {w} {z} e W = record { low = λ i h. go (P .x i) (P .low i) (W .low i h); high = λ i h. go (P .x i) (P .high i) (W .high i h) }
+  where
     less : (q r f g n : ℕ) → 0 < q → q * f ≡ r * g → g * z ≤ n * (q * P .d) → f * z ≤ n * (r * P .d)
     less q r f g n hq k h = le-of-mul-le-mul-left (omega (arith, ap (λ (t : ℕ). t * z) k, mul-le-mul-right r h)) hq
 
     go : (x v : ℤ) → natAbs (off P L x v) * z ≤ w * (L .q * P .d) → natAbs (off P M x v) * z ≤ w * (M .q * P .d)
-    go x v h = less (L .q) (M .q) (natAbs (off P M x v)) (natAbs (off P L x v)) w (L .some) (sym (size-product (pos (L .q)) (off P M x v)) ∙ ap natAbs (both x v) ∙ size-product (pos (M .q)) (off P L x v)) h
+    go x v h = less (L .q) (M .q) (natAbs (off P M x v)) (natAbs (off P L x v)) w (L .some) (sym (size-product (pos (L .q)) (off P M x v)) ∙ ap natAbs (off-same P x v e) ∙ size-product (pos (M .q)) (off P L x v)) h
 
 -- ---- one answer
 pub exclusive : {F : Line → Type 0} {P : Points} {w z : ℕ} → Single F P w z → Several F P w z → ⊥

@@ -10,7 +10,7 @@ use Rattle.whole.specs.Ring.{ring}
 use Rattle.whole.specs.Sign.{Positive, lt-sign, weaken, nat-nonneg, nat-positive, positive-mul, positive-nat}
 use Rattle.band.specs.Line.{Line, Points, Proper, off, Terminal, Same}
 use Rattle.band.specs.Seen.{offE}
-use Rattle.band.specs.Same.{Agree, agree-by, agree-twice}
+use Rattle.band.specs.Same.{agree-twice, agree-passing}
 
 abbrev last : Points → ℕ
 last P = P .m - 1
@@ -67,10 +67,7 @@ module _ {P : Points} (proper : Proper P) where
       height t u = offE ((y ⊖ x) ⊗ d) d (w ⊖ v) (v ⊗ y ⊖ w ⊗ x) t u
 
   pub terminal-same : (L M : Line) → Terminal P L → Terminal P M → Same L M
-  terminal-same L M s t = agree-twice L M (P .x 0) (P .x (last P)) rise (agree (P .x 0) (P .low 0) (s .first) (t .first)) (agree (P .x (last P)) (P .low (last P)) (s .last) (t .last))
-    where
-      through : (N : Line) (x v : ℤ) → off P N x v ≡ pos 0 → pos 1 *ℤ off P N x v ≡ pos 0 *ℤ pos (N .q * P .d)
-      through N x v e = ap (λ (t : ℤ). pos 1 *ℤ t) e ∙ ring (pos (N .q * P .d) ∷ []) (lit 1 ⊗ lit 0) (lit 0 ⊗ var 0) tt
-
-      agree : (x v : ℤ) → off P L x v ≡ pos 0 → off P M x v ≡ pos 0 → Agree L M x
-      agree x v e f = agree-by P L M 1 (pos 0) x v (proper .unit) (omega arith) (through L x v e) (through M x v f)
+  terminal-same L M s t =
+      agree-twice L M (P .x 0) (P .x (last P)) rise
+      (agree-passing P L M (P .x 0) (P .low 0) (proper .unit) (s .first) (t .first))
+      (agree-passing P L M (P .x (last P)) (P .low (last P)) (proper .unit) (s .last) (t .last))

@@ -1,4 +1,5 @@
 // At each of m rising inputs a lowest and a highest value, which count units of 1/d.
+ghost use mathlib.Core.Bool.{_&&_};
 ghost use mathlib.Core.Path.{_≡_};
 ghost use Prim.Native.Nat.{_<_, _≤_};
 ghost use lib.ListN.{getD};
@@ -121,7 +122,7 @@ pub fn is_admitted(g: Band) -> bool
 }
 
 // One value at each input.
-pub fn is_level(g: Band) -> bool
+fn is_level(g: Band) -> bool
     requires { ⌜ g .m ≤ 11 ⌝ }
     ensures { λ r. ⌜ r ≡ level g ⌝ }
 {
@@ -133,4 +134,11 @@ pub fn is_level(g: Band) -> bool
         i += 1;
     }
     ok
+}
+
+// A line that goes through points is drawn only of an admitted band with one value at each input.
+pub fn is_drawn(g: Band) -> bool
+    ensures { λ r. ⌜ r ≡ admits g && level g ⌝ }
+{
+    if is_admitted(g) { is_level(g) } else { false }
 }

@@ -84,7 +84,7 @@ fn bend(x: Input, y: Input, z: Input, a: Sum, b: Sum, c: Sum) -> i64
     (r - q) * u + (q - p) * w - (r - p) * v
 }
 
-fn span(x: Input, z: Input) -> i64
+pub fn span(x: Input, z: Input) -> i64
     requires { ⌜ Bounds (x .count ∷ z .count ∷ []) (most-x ∷ most-x ∷ []) ⌝ }
     ensures value { λ r. ⌜ r ≡ z .count -ℤ x .count ⌝ }
     ensures small { λ r. ⌜ natAbs r ≤ 60000 ⌝ }

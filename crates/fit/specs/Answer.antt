@@ -35,20 +35,20 @@ pub record TheLine (F : Line → Type 0) (P : Points) (f : Fit) : Type 0 where
   pub single : Single F P (natAbs (f .w)) (f .q)
   pub unit : f .q ≤ 120000 * P .d
 
--- h is the least largest deviation, which several lines reach
-pub record OnlyWidth (P : Points) (h : Wide) : Type 0 where
+-- h is the least largest deviation in the family F, which several of its lines reach
+pub record OnlyWidth (F : Line → Type 0) (P : Points) (h : Wide) : Type 0 where
   pub some : 0 < h .q
   pub sign : pos 0 ≤ℤ h .w
   pub width : Made (h .w) (h .q) (h .width)
   pub w-most : natAbs (h .w) ≤ 40000000000000
   pub q-most : h .q ≤ 24000000
-  pub least : Least All P (natAbs (h .w)) (h .q)
-  pub several : Several All P (natAbs (h .w)) (h .q)
+  pub least : Least F P (natAbs (h .w)) (h .q)
+  pub several : Several F P (natAbs (h .w)) (h .q)
 
 -- the line of least largest deviation (2.3.5.6)
 abbrev pub BestDue : Band → Drawn → Type 0
 BestDue g (drawn.Line f) = Admitted g × TheLine All (points g) f
-BestDue g (drawn.Several h) = Admitted g × OnlyWidth (points g) h
+BestDue g (drawn.Several h) = Admitted g × OnlyWidth All (points g) h
 BestDue g drawn.Improper = Admitted g → ⊥
 
 -- the terminal line (2.3.5.2) with its largest deviation

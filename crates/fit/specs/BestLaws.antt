@@ -75,7 +75,7 @@ pub greatest-twin : {P : Points} {i j : ℕ} → num P (one i) ≡ num P (one j)
 greatest-twin {P} e h g = record { fits = h; all = λ c f. subst (λ (n : ℤ). (num P c *ℤ pos 1) ≤ℤ (n *ℤ den P c)) e (g .all c f) }
 
 -- every other candidate is less: several lines
-pub several-best : {g : Band} → Admitted g → (i : ℕ) → Greatest (points g) (one i) → ((c : Candidate) → Fits (points g) c → (c ≡ one i → ⊥) → (num (points g) c *ℤ den (points g) (one i)) <ℤ (num (points g) (one i) *ℤ den (points g) c)) → {h : Wide} → WideParts (num (points g) (one i)) (g .d) h → natAbs (num (points g) (one i)) ≤ 18540000000000 → OnlyWidth (points g) h
+pub several-best : {g : Band} → Admitted g → (i : ℕ) → Greatest (points g) (one i) → ((c : Candidate) → Fits (points g) c → (c ≡ one i → ⊥) → (num (points g) c *ℤ den (points g) (one i)) <ℤ (num (points g) (one i) *ℤ den (points g) c)) → {h : Wide} → WideParts (num (points g) (one i)) (g .d) h → natAbs (num (points g) (one i)) ≤ 18540000000000 → OnlyWidth All (points g) h
 several-best {g} a i top alone {h} p size =
     let P = points g in
     let proper = a .proper in

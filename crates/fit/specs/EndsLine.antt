@@ -12,7 +12,7 @@ use Rattle.whole.specs.Ring.{ring}
 use Rattle.whole.specs.Order.{mul-le}
 use Rattle.whole.specs.Sign.{NonNeg, le-sign, sign-le, le-trans, nonneg-nat, nat-nonneg}
 use Rattle.whole.specs.Size.{size-product, size-neg, size-by}
-use Rattle.band.specs.Line.{Line, Points, Proper, off, Largest, Terminal}
+use Rattle.band.specs.Line.{Line, Points, Proper, OneValue, off, Largest, Terminal}
 use Rattle.band.specs.Largest.{Reached, largest-by}
 use Rattle.band.specs.Shift.{Range}
 use Rattle.band.specs.Seen.{offE}
@@ -61,7 +61,7 @@ module _ (P : Points) (e : Ends) (L : Line) (h : Has P e L) where
   pub has-terminal : EndsOf P e → Terminal P L
   has-terminal t = record { first = none 0 (above-first P e t); last = none (P .m - 1) (above-last P e t) }
 
-  module _ (level : (i : ℕ) → i < P .m → P .low i ≡ P .high i) {r : Spread} (R : Ranged P e (P .m) r) where
+  module _ (level : OneValue P) {r : Spread} (R : Ranged P e (P .m) r) where
     -- the highest value is the lowest
     high-is : (p : ℕ) → p < P .m → off P L (P .x p) (P .high p) ≡ d *ℤ above P e p
     high-is p f = ap (λ (v : ℤ). off P L (P .x p) v) (sym (level p f)) ∙ off-is p

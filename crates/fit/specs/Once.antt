@@ -7,7 +7,7 @@ use Rattle.whole.specs.Sign.{positive-nat, nat-nonneg}
 use Rattle.exact.specs.Value.{Made}
 use Rattle.exact.specs.Once.{same-terms}
 use Rattle.exact.specs.declared.Fraction.{Fraction}
-use Rattle.band.specs.Line.{Line, Points, Largest, All, Several, Same, Terminal}
+use Rattle.band.specs.Line.{Line, Points, Largest, Several, Same, Terminal}
 use Rattle.band.specs.Same.{through, same-sym, same-within, exclusive, width-same}
 use Rattle.band.specs.Largest.{largest-same}
 use Rattle.band.specs.Least.{least, all-single}
@@ -48,7 +48,7 @@ made-once {n} {m} {p} {q} {f} {h} a b hp hq e =
     (through (f .num) m (h .num) (pos q) (pos (f .den)) (pos (h .den)) (positive-nat hq) (through (f .num) n m (pos p) (pos (f .den)) (pos q) (positive-nat hp) (a .worth hp) e) (sym (b .worth hq)))
 
 -- widths that are not negative
-wide-once : {n m : ℤ} {p q : ℕ} {f h : Fraction} → Made n p f → Made m q h → 0 < p → 0 < q → pos 0 ≤ℤ n → pos 0 ≤ℤ m → natAbs n * q ≡ natAbs m * p → f ≡ h
+pub wide-once : {n m : ℤ} {p q : ℕ} {f h : Fraction} → Made n p f → Made m q h → 0 < p → 0 < q → pos 0 ≤ℤ n → pos 0 ≤ℤ m → natAbs n * q ≡ natAbs m * p → f ≡ h
 wide-once {n} {m} {p} {q} a b hp hq hn hm e = made-once a b hp hq (ap (λ (z : ℤ). z *ℤ pos q) (sym (nat-nonneg hn)) ∙ ap pos e ∙ ap (λ (z : ℤ). z *ℤ pos p) (nat-nonneg hm))
 
 -- the line and the width are one
@@ -60,12 +60,12 @@ told-once a b e s = record {
 }
 
 -- ---- the line of least largest deviation in a family
-line-once : {F : Line → Type 0} {P : Points} {f h : Fit} → TheLine F P f → TheLine F P h → OneLine f h
+pub line-once : {F : Line → Type 0} {P : Points} {f h : Fit} → TheLine F P f → TheLine F P h → OneLine f h
 line-once {F} {P} {f} {h} a b =
     let e = width-same (b .least) (a .least) in
     told-once (a .told) (b .told) (sym e) (a .single _ _ (a .member) (b .member) (a .reached) (within-alike (record { some = b .told .some; some′ = a .told .some; is = e }) (b .reached)))
 
-not-both : {P : Points} {f : Fit} {h : Wide} → TheLine All P f → OnlyWidth P h → ⊥
+pub not-both : {F : Line → Type 0} {P : Points} {f : Fit} {h : Wide} → TheLine F P f → OnlyWidth F P h → ⊥
 not-both a b = exclusive (a .single) (several-alike (record { some = b .some; some′ = a .told .some; is = width-same (b .least) (a .least) }) (b .several))
 
 -- `best`

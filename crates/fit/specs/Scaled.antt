@@ -5,7 +5,7 @@ use native.Mathlib.Nat.{mul-le-mul-right, le-of-mul-le-mul-left}
 use native.Mathlib.Omega.{arith}
 use lib.IntN.{natAbs}
 use Rattle.whole.specs.Sign.{positive-nat}
-use Rattle.band.specs.Line.{Line, Points, off, Within, Largest, Least, Single, Several, Same, Parallel}
+use Rattle.band.specs.Line.{Line, Points, off, Within, Least, Single, Several, Same, Parallel}
 use Rattle.band.specs.Same.{through, same-within}
 use Rattle.fit.specs.Answer.{Told, TheLine, line-of}
 use Rattle.fit.specs.declared.Fit.{Fit}
@@ -38,9 +38,6 @@ module _ {w z w′ z′ : ℕ} (e : Alike w z w′ z′) where
   pub least-alike : {F : Line → Type 0} {P : Points} → Least F P w z → Least F P w′ z′
   least-alike M = record { some = e .some′; line = M .line; member = M .member; reached = within-alike (M .reached); least = λ L v y f h W. no-more v y (M .least L v y f h W) }
 
-  pub largest-alike : {P : Points} {L : Line} → Largest P L w z → Largest P L w′ z′
-  largest-alike M = record { some = e .some′; within = within-alike (M .within); least = λ v y h W. no-more v y (M .least v y h W) }
-
   pub several-alike : {F : Line → Type 0} {P : Points} → Several F P w z → Several F P w′ z′
   several-alike s = record { one = s .one; two = s .two; one-of = s .one-of; two-of = s .two-of; one-in = within-alike (s .one-in); two-in = within-alike (s .two-in); differ = s .differ }
 
@@ -54,6 +51,9 @@ module _ {F G : Line → Type 0} (to : (L : Line) → F L → G L) (from : (L : 
 
   pub single-family : Single F P w z → Single G P w z
   single-family s L M f g A B = s L M (from L f) (from M g) A B
+
+pub several-family : {F G : Line → Type 0} → ((L : Line) → F L → G L) → {P : Points} {w z : ℕ} → Several F P w z → Several G P w z
+several-family to s = record { one = s .one; two = s .two; one-of = to (s .one) (s .one-of); two-of = to (s .two) (s .two-of); one-in = s .one-in; two-in = s .two-in; differ = s .differ }
 
 pub parallel-same : {L N : Line} → Same L N → (M : Line) → Parallel L M → Parallel N M
 parallel-same {L} {N} e M h = through (M .a) (L .a) (N .a) _ _ _ (positive-nat (L .some)) h (e .slope)

@@ -1,5 +1,4 @@
 // Lines through points: the terminal line, the shifted terminal line, and the line of least largest deviation.
-ghost use mathlib.Core.Bool.{_&&_};
 ghost use mathlib.Core.List.{_∷_, []};
 ghost use mathlib.Core.Path.{_≡_};
 ghost use Prim.Native.Nat.{_<_, _≤_};
@@ -7,7 +6,6 @@ ghost use lib.IntN.{pos, natAbs, _+ℤ_, _-ℤ_, _*ℤ_};
 ghost use Rattle.whole.specs.Machine.{Bounds};
 ghost use Rattle.band.specs.Band.{points, most-x, most-v, most-d, Admitted};
 ghost use Rattle.fit.specs.Answer.{BestDue, TerminalDue, ShiftedDue};
-ghost use Rattle.band.specs.Admit.{admits, level};
 ghost use Rattle.band.specs.Search.{BestOf};
 ghost use Rattle.fit.specs.Parts.{Whole, FitParts, Over, Chosen, PairParts, WideParts};
 ghost use Rattle.fit.specs.Greater.{smaller, greater};
@@ -16,7 +14,7 @@ use band::Band;
 use band::high_at;
 use band::input_at;
 use band::is_admitted;
-use band::is_level;
+use band::is_drawn;
 use band::low_at;
 use band::search::Candidate;
 use band::search::Top;
@@ -66,7 +64,7 @@ struct Spread {
 }
 
 // Whole numbers over a positive denominator, with their fractions.
-fn told(a: i64, b: i64, q: i64, w: i64) -> Fit
+pub fn told(a: i64, b: i64, q: i64, w: i64) -> Fit
     requires { ⌜ Whole a b q w ⌝ }
     ensures { λ f. ⌜ FitParts a b q w f ⌝ }
 {
@@ -92,13 +90,6 @@ fn larger(a: i64, b: i64) -> i64
     ensures { λ r. ⌜ r ≡ greater a b ⌝ }
 {
     if a < b { b } else { a }
-}
-
-// A terminal line is drawn only of an admitted band with one value at each input.
-fn is_drawn(g: Band) -> bool
-    ensures { λ r. ⌜ r ≡ admits g && level g ⌝ }
-{
-    if is_admitted(g) { is_level(g) } else { false }
 }
 
 // The line through the value a at x and c at z.
@@ -282,7 +273,7 @@ fn middles(g: Band, i: usize, j: usize) -> Fit
 }
 
 // The width w/(2d) alone.
-fn only(w: i64, d: u64) -> Wide
+pub fn only(w: i64, d: u64) -> Wide
     requires { ⌜ (natAbs w ≤ most-e) × (d ≤ most-d) ⌝ }
     ensures { λ h. ⌜ WideParts w d h ⌝ }
 {

@@ -1,9 +1,10 @@
--- The answer that is due for an index of a run (the paper, "What can be answered" and "The formulas in whole numbers"). Definitions only.
+-- The answer that is due for an index of a run (the paper, "What can be answered" and "The formulas in whole numbers"; request C-11). Definitions only.
 use mathlib.Core.Path.{_≡_}
 use mathlib.Core.Bool.{Bool, true, false}
 use Prim.Native.Nat.{ℕ, _*_, _-_, _<_}
 use lib.Dec.{T}
 use lib.IntN.{pos, natAbs, _-ℤ_}
+use lib.Signed.{_<ℤ_}
 use Rattle.exact.specs.Value.{Made, nought}
 use Rattle.exact.specs.Rounding.{Nearest}
 use Rattle.exact.specs.declared.Fraction.{Fraction}
@@ -11,7 +12,7 @@ use Rattle.run.specs.Run.{input}
 use Rattle.run.specs.Limits.{verdict}
 use Rattle.run.specs.declared.Run.{Run}
 use Rattle.groups.specs.Sums.{limit}
-use Rattle.band.specs.Line.{Line, Points, Within, Largest, All, Parallel, Least, Single, Several, Terminal}
+use Rattle.band.specs.Line.{Line, Points, Within, Largest, All, Parallel, Zero, Front, Least, Single, Several, Terminal}
 use Rattle.indices.specs.Through.{means, strokes, limit-points, LargestOf, swing, scatter}
 use Rattle.indices.specs.declared.Answer.{Answer}
 use Rattle.indices.specs.declared.Index.{Index}
@@ -36,25 +37,29 @@ abbrev pub Fits : Index → Run → Line → (w z : ℕ) → Type 0
 Fits index.Terminal r L w z = Terminal (means r) L × Largest (means r) L w z
 Fits index.Shifted r L w z = (T : Line) → Terminal (means r) T → Best (Parallel T) (means r) L w z
 Fits index.Independent r L w z = Best All (means r) L w z
+Fits index.Zero r L w z = Best (Zero (means r)) (means r) L w z
+Fits index.Front r L w z = Best (Front (means r)) (means r) L w z
 Fits index.Hysteresis r L w z = Independent r L × LargestOf (r .m) (swing r) w × (z ≡ r .n)
 Fits index.Repeatability r L w z = Independent r L × LargestOf (r .m) (scatter (limit r)) w × (z ≡ r .n)
 Fits index.Lh r L w z = Best All (strokes r) L w z
 Fits index.Lhr r L w z = Best All (limit-points r (limit r)) L w z
 
--- several lines reach the least width w/z of the points P
-pub record Many (P : Points) (w z : ℕ) : Type 0 where
-  pub least : Least All P w z
-  pub several : Several All P w z
+-- several lines of the family F reach its least width w/z
+pub record Many (F : Line → Type 0) (P : Points) (w z : ℕ) : Type 0 where
+  pub least : Least F P w z
+  pub several : Several F P w z
 
--- with one value at each input the line is single: only LH and LHR can have several
+-- several lines can reach it where an input has two values, and through the origin where an input is zero
 abbrev pub SeveralFit : Index → Run → (w z : ℕ) → Type 0
 SeveralFit index.Terminal r w z = ⊥
 SeveralFit index.Shifted r w z = ⊥
 SeveralFit index.Independent r w z = ⊥
+SeveralFit index.Zero r w z = Many (Zero (means r)) (means r) w z
+SeveralFit index.Front r w z = ⊥
 SeveralFit index.Hysteresis r w z = ⊥
 SeveralFit index.Repeatability r w z = ⊥
-SeveralFit index.Lh r w z = Many (strokes r) w z
-SeveralFit index.Lhr r w z = Many (limit-points r (limit r)) w z
+SeveralFit index.Lh r w z = Many All (strokes r) w z
+SeveralFit index.Lhr r w z = Many All (limit-points r (limit r)) w z
 
 -- ---- answers
 -- under every refusal for which nothing else stands all fractions are 0/1 and the thousandths 0
@@ -80,11 +85,31 @@ pub record Stands (r : Run) (L : Line) (w z : ℕ) (a : Answer) : Type 0 where
   pub index : Made (pos (w * L .q)) (z * (natAbs (L .a) * span r)) (a .index)
   pub thousandths : Nearest (100000 * natAbs (a .index .num)) (a .index .den) (a .thousandths)
 
+-- 15 (request C-11): zero-based linearity is asked for, and an input is negative
+abbrev pub from-zero : Index → Bool
+from-zero index.Terminal = false
+from-zero index.Shifted = false
+from-zero index.Independent = false
+from-zero index.Zero = true
+from-zero index.Front = false
+from-zero index.Hysteresis = false
+from-zero index.Repeatability = false
+from-zero index.Lh = false
+from-zero index.Lhr = false
+
+pub record BelowZero (which : Index) (r : Run) : Type 0 where
+  pub asked : T (from-zero which)
+  pub at : ℕ
+  pub within : at < r .m
+  pub negative : input r at <ℤ pos 0
+
 -- 13: repeatability or LHR is asked for, and the run has one cycle
 abbrev pub scatters : Index → Bool
 scatters index.Terminal = false
 scatters index.Shifted = false
 scatters index.Independent = false
+scatters index.Zero = false
+scatters index.Front = false
 scatters index.Hysteresis = false
 scatters index.Repeatability = true
 scatters index.Lh = false
@@ -98,8 +123,9 @@ pub data Given (which : Index) (r : Run) (a : Answer) : Type 0 where
   several : (w z : ℕ) → 0 < z → SeveralFit which r w z → Made (pos w) z (a .width) → a ≡ only-width (a .width) → Given which r a
   one-line : (L : Line) → (w z : ℕ) → 0 < z → Fits which r L w z → Stands r L w z a → Given which r a
 
--- the checks of the run, then 13, then 12, then 11
+-- the checks of the run, then 15, then 13, then 12, then 11
 pub data Due (which : Index) (r : Run) (a : Answer) : Type 0 where
   no-run : (verdict r .number ≡ 0 → ⊥) → a ≡ refused (verdict r .number) (verdict r .place) → Due which r a
-  one-cycle : verdict r .number ≡ 0 → OneCycle which r → a ≡ refused 13 0 → Due which r a
-  given : verdict r .number ≡ 0 → (OneCycle which r → ⊥) → Given which r a → Due which r a
+  below-zero : verdict r .number ≡ 0 → BelowZero which r → a ≡ refused 15 0 → Due which r a
+  one-cycle : verdict r .number ≡ 0 → (BelowZero which r → ⊥) → OneCycle which r → a ≡ refused 13 0 → Due which r a
+  given : verdict r .number ≡ 0 → (BelowZero which r → ⊥) → (OneCycle which r → ⊥) → Given which r a → Due which r a

@@ -16,9 +16,10 @@ use Rattle.band.specs.Same.{same-written}
 use Rattle.band.specs.Terminal.{terminal-line, terminal-some, terminal}
 use Rattle.band.specs.Band.{points, Admitted}
 use Rattle.band.specs.declared.Band.{Band}
-use Rattle.fit.specs.Answer.{line-of, OnlyWidth, BestDue, TerminalDue, ShiftedDue}
+use Rattle.fit.specs.Answer.{line-of, TheLine, OnlyWidth, BestDue, TerminalDue, ShiftedDue}
 use Rattle.fit.specs.Greater.{greater-size}
 use Rattle.fit.specs.Once.{level-single}
+use Rattle.fit.specs.declared.Fit.{Fit}
 use Rattle.fit.specs.declared.Wide.{Wide}
 use Rattle.fit.specs.declared.Drawn.{Drawn}
 use Rattle.fit.specs.declared.Drawn.the-variants as drawn
@@ -63,8 +64,12 @@ shifted-given g (drawn.Several h) c e due own = absurd due
 shifted-given g drawn.Improper {r} c e due own = absurd (due (admitted c lines.Means tt e) (level-means g r e))
 
 -- ---- the best lines
--- several lines reach the width
-several-given : {which : Index} {r : Run} {a : Answer} {P : Points} {h : Wide} → OnlyWidth P h → SeveralFit which r (natAbs (h .w)) (h .q) → a ≡ only-width (h .width) → Given which r a
+-- one line reaches the width
+pub line-given : {which : Index} {r : Run} {a : Answer} {F : Line → Type 0} {P : Points} {f : Fit} (t : TheLine F P f) → Fits which r (line-of f (t .told .some)) (natAbs (f .w)) (f .q) → OwnWidth (drawn.Line f) (span r) a → Given which r a
+line-given {f = f} t fits own = one-line (line-of f (t .told .some)) (natAbs (f .w)) (f .q) (t .told .some) fits (own-stands (t .told) own)
+
+-- several lines reach it
+pub several-given : {which : Index} {r : Run} {a : Answer} {F : Line → Type 0} {P : Points} {h : Wide} → OnlyWidth F P h → SeveralFit which r (natAbs (h .w)) (h .q) → a ≡ only-width (h .width) → Given which r a
 several-given {a = a} {h = h} o many e =
     several (natAbs (h .w)) (h .q) (o .some) many
     (subst (Made (pos (natAbs (h .w))) (h .q)) (sym (ap (λ (a : Answer). a .width) e)) (subst (λ (n : ℤ). Made n (h .q) (h .width)) (sym (nat-nonneg (o .sign))) (o .width)))
@@ -83,9 +88,7 @@ many-fit lines.Strokes g r e due = many-points e (due .1)
 many-fit lines.Limits g r e due = many-points e (due .1)
 
 pub best-given : (t : Through) (g : Band) (d : Drawn) {r : Run} {a : Answer} → Checked r → Cycles t r → SamePoints (points g) (through t r) → BestDue g d → OwnWidth d (span r) a → Given (best-index t) r a
-best-given t g (drawn.Line f) {r} c n e due own =
-    let line = due .1 in
-    one-line (line-of f (line .told .some)) (natAbs (f .w)) (f .q) (line .told .some) (fits-best t r (best-points e line)) (own-stands (line .told) own)
+best-given t g (drawn.Line f) {r} c n e due own = line-given (due .1) (fits-best t r (best-points e (due .1))) own
 best-given t g (drawn.Several h) {r} c n e due own = several-given (due .1) (many-fit t g r e due) own
 best-given t g drawn.Improper c n e due own = absurd (due (admitted c t n e))
 

@@ -5,5 +5,6 @@ pub mod Transfer
 pub mod Admitted
 pub mod Standing
 pub mod Given
+pub mod Pinned
 pub mod Once
 pub mod BandLaws

@@ -16,14 +16,14 @@ use Rattle.exact.specs.Once.{one-nearest}
 use Rattle.exact.specs.declared.Fraction.{Fraction}
 use Rattle.run.specs.Checked.{Checked, checked}
 use Rattle.run.specs.declared.Run.{Run}
-use Rattle.band.specs.Line.{Line, Points, All, Same}
+use Rattle.band.specs.Line.{Line, Points, Same}
 use Rattle.band.specs.Same.{same-sym, exclusive, width-same}
 use Rattle.band.specs.Largest.{largest-same}
 use Rattle.band.specs.Terminal.{terminal-line, terminal-some, terminal, terminal-same}
 use Rattle.fit.specs.Scaled.{within-alike, several-alike}
 use Rattle.fit.specs.Once.{made-once, same-largest}
 use Rattle.indices.specs.Through.{means, LargestOf}
-use Rattle.indices.specs.Due.{Best, Independent, Fits, Many, SeveralFit, only-width, span, Stands, Given, several, one-line, Due, no-run, one-cycle, given}
+use Rattle.indices.specs.Due.{Best, Independent, Fits, Many, SeveralFit, only-width, span, Stands, Given, several, one-line, Due, no-run, below-zero, one-cycle, given}
 use Rattle.indices.specs.Standing.{none-right}
 use Rattle.indices.specs.Admitted.{proper-means}
 use Rattle.indices.specs.declared.Answer.{Answer}
@@ -56,6 +56,8 @@ fits-once index.Shifted {r} c a b =
     let t = terminal (proper-means c) some in
     best-once (a T t) (b T t)
 fits-once index.Independent c a b = best-once a b
+fits-once index.Zero c a b = best-once a b
+fits-once index.Front c a b = best-once a b
 fits-once index.Hysteresis c a b = other-once a b
 fits-once index.Repeatability c a b = other-once a b
 fits-once index.Lh c a b = best-once a b
@@ -111,13 +113,15 @@ module _ {r : Run} {L M : Line} {w z w′ z′ : ℕ} {a b : Answer} (some : 0 <
       λ i. record { number = number i; place = place i; width = width i; slope = slope i; offset = offset i; index = index-once i; thousandths = thousandths i }
 
 -- ---- several lines
-many-best : {P : Points} {L : Line} {w z w′ z′ : ℕ} → Many P w z → Best All P L w′ z′ → ⊥
+many-best : {F : Line → Type 0} {P : Points} {L : Line} {w z w′ z′ : ℕ} → Many F P w z → Best F P L w′ z′ → ⊥
 many-best a b = exclusive (b .single) (several-alike (record { some = a .least .some; some′ = b .least .some; is = width-same (a .least) (b .least) }) (a .several))
 
 not-both : (which : Index) (r : Run) (L : Line) (w z w′ z′ : ℕ) → SeveralFit which r w z → Fits which r L w′ z′ → ⊥
 not-both index.Terminal r L w z w′ z′ a b = a
 not-both index.Shifted r L w z w′ z′ a b = a
 not-both index.Independent r L w z w′ z′ a b = a
+not-both index.Zero r L w z w′ z′ a b = many-best a b
+not-both index.Front r L w z w′ z′ a b = a
 not-both index.Hysteresis r L w z w′ z′ a b = a
 not-both index.Repeatability r L w z w′ z′ a b = a
 not-both index.Lh r L w z w′ z′ a b = many-best a b
@@ -127,6 +131,8 @@ several-once : (which : Index) (r : Run) (w z w′ z′ : ℕ) → SeveralFit wh
 several-once index.Terminal r w z w′ z′ a b = absurd a
 several-once index.Shifted r w z w′ z′ a b = absurd a
 several-once index.Independent r w z w′ z′ a b = absurd a
+several-once index.Zero r w z w′ z′ a b = width-same (a .least) (b .least)
+several-once index.Front r w z w′ z′ a b = absurd a
 several-once index.Hysteresis r w z w′ z′ a b = absurd a
 several-once index.Repeatability r w z w′ z′ a b = absurd a
 several-once index.Lh r w z w′ z′ a b = width-same (a .least) (b .least)
@@ -141,11 +147,18 @@ given-once which c (one-line L w z some f A) (one-line M w′ z′ some′ h B) 
 
 pub one-answer : (which : Index) (r : Run) {a b : Answer} → Due which r a → Due which r b → a ≡ b
 one-answer which r (no-run h e) (no-run i f) = e ∙ sym f
-one-answer which r (no-run h e) (one-cycle v o f) = absurd (h v)
-one-answer which r (no-run h e) (given v o g) = absurd (h v)
-one-answer which r (one-cycle v o e) (no-run h f) = absurd (h v)
-one-answer which r (one-cycle v o e) (one-cycle u p f) = e ∙ sym f
-one-answer which r (one-cycle v o e) (given u p g) = absurd (p o)
-one-answer which r (given v o g) (no-run h f) = absurd (h v)
-one-answer which r (given v o g) (one-cycle u p f) = absurd (o p)
-one-answer which r (given v o g) (given u p h) = given-once which (checked r v) g h
+one-answer which r (no-run h e) (below-zero v b f) = absurd (h v)
+one-answer which r (no-run h e) (one-cycle v n o f) = absurd (h v)
+one-answer which r (no-run h e) (given v n o g) = absurd (h v)
+one-answer which r (below-zero v b e) (no-run h f) = absurd (h v)
+one-answer which r (below-zero v b e) (below-zero u c f) = e ∙ sym f
+one-answer which r (below-zero v b e) (one-cycle u n o f) = absurd (n b)
+one-answer which r (below-zero v b e) (given u n o g) = absurd (n b)
+one-answer which r (one-cycle v n o e) (no-run h f) = absurd (h v)
+one-answer which r (one-cycle v n o e) (below-zero u b f) = absurd (n b)
+one-answer which r (one-cycle v n o e) (one-cycle u k p f) = e ∙ sym f
+one-answer which r (one-cycle v n o e) (given u k p g) = absurd (p o)
+one-answer which r (given v n o g) (no-run h f) = absurd (h v)
+one-answer which r (given v n o g) (below-zero u b f) = absurd (n b)
+one-answer which r (given v n o g) (one-cycle u k p f) = absurd (o p)
+one-answer which r (given v n o g) (given u k p h) = given-once which (checked r v) g h

@@ -14,6 +14,7 @@ use Rattle.run.specs.declared.Run.{Run}
 use Rattle.band.specs.Line.{Line, Points, All, Same}
 use Rattle.band.specs.Same.{same-within}
 use Rattle.fit.specs.Answer.{Told, line-of, TheLine, OnlyWidth}
+use Rattle.fit.specs.Scaled.{least-family, single-family, several-family}
 use Rattle.fit.specs.declared.Fit.{Fit}
 use Rattle.fit.specs.declared.Wide.{Wide}
 use Rattle.indices.specs.Through.{means}
@@ -77,8 +78,16 @@ module _ {P R : Points} (e : SamePoints P R) where
   pub best-points : {F : Line → Type 0} {f : Fit} → (t : TheLine F P f) → Best F R (line-of f (t .told .some)) (natAbs (f .w)) (f .q)
   best-points t = record { member = t .member; reached = within-points e (t .reached); least = least-points e (t .least); single = single-points e (t .single) }
 
-  pub many-points : {h : Wide} → OnlyWidth P h → Many R (natAbs (h .w)) (h .q)
+  pub many-points : {F : Line → Type 0} {h : Wide} → OnlyWidth F P h → Many F R (natAbs (h .w)) (h .q)
   many-points o = record { least = least-points e (o .least); several = several-points e (o .several) }
+
+-- the same lines, said in two ways
+module _ {F G : Line → Type 0} (to : (L : Line) → F L → G L) (from : (L : Line) → G L → F L) {P : Points} {w z : ℕ} where
+  pub best-family : {L : Line} → Best F P L w z → Best G P L w z
+  best-family {L} b = record { member = to L (b .member); reached = b .reached; least = least-family to from (b .least); single = single-family to from (b .single) }
+
+  pub many-family : Many F P w z → Many G P w z
+  many-family m = record { least = least-family to from (m .least); several = several-family to (m .several) }
 
 pub independent-points : {P : Points} {r : Run} {f : Fit} → SamePoints P (means r) → (t : TheLine All P f) → Independent r (line-of f (t .told .some))
 independent-points {f = f} e t = record { w = natAbs (f .w); z = f .q; best = best-points e t }

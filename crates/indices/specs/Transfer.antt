@@ -2,7 +2,7 @@
 use mathlib.Core.Path.{sym}
 use Prim.Native.Nat.{ℕ, _-_, _<_}
 use native.Mathlib.Omega.{arith}
-use Rattle.band.specs.Line.{Line, Points, Proper, Within, Largest, Least, Single, Several, Terminal}
+use Rattle.band.specs.Line.{Line, Points, Proper, Within, Largest, Least, Single, Several, Zero, Front, Terminal}
 use Rattle.indices.specs.Parts.{SamePoints}
 
 pub same-points-sym : {P R : Points} → SamePoints P R → SamePoints R P
@@ -34,9 +34,15 @@ module _ {P R : Points} (e : SamePoints P R) where
     pub several-points : Several F P w z → Several F R w z
     several-points s = record { one = s .one; two = s .two; one-of = s .one-of; two-of = s .two-of; one-in = within-points e (s .one-in); two-in = within-points e (s .two-in); differ = s .differ }
 
+  pub zero-points : (L : Line) → Zero P L → Zero R L
+  zero-points L t = rw (e .d) at t
+
+  pub front-points : 0 < R .m → (L : Line) → Front P L → Front R L
+  front-points h L t = rw (e .d, e .x 0 h, e .low 0 h) at t
+
   pub terminal-points : 0 < R .m → {L : Line} → Terminal P L → Terminal R L
   terminal-points h {L} t = record {
-    first = rw (e .d, e .x 0 h, e .low 0 h) at (t .first);
+    first = front-points h L (t .first);
     last = rw (e .m, e .d, e .x (R .m - 1) (omega arith), e .low (R .m - 1) (omega arith)) at (t .last);
   }
 

@@ -1,12 +1,13 @@
-// The seven indices of a run.
+// The nine indices of a run.
 ghost use mathlib.Core.Path.{_≡_};
 ghost use Prim.Native.Nat.{_*_, _≤_};
 ghost use lib.IntN.{pos, natAbs, _-ℤ_};
-ghost use lib.Signed.{_≤ℤ_};
+ghost use lib.Signed.{_≤ℤ_, ltZ};
 ghost use Rattle.exact.specs.Rounding.{Nearest, Told};
 ghost use Rattle.exact.specs.Value.{nought};
+ghost use Rattle.run.specs.Run.{input};
 ghost use Rattle.run.specs.Checked.{Checked};
-ghost use Rattle.indices.specs.Due.{refused, only-width, span, scatters, OneCycle, Given, Due};
+ghost use Rattle.indices.specs.Due.{refused, only-width, span, from-zero, scatters, BelowZero, OneCycle, Given, Due};
 ghost use Rattle.indices.specs.Parts.{Cycles, Measured, best-index, wide-index, LineParts, Tellable, OwnWidth, OwnReady, OtherWidth, OtherReady};
 
 mod bands;
@@ -27,6 +28,8 @@ pub enum Index {
     Terminal,
     Shifted,
     Independent,
+    Zero,
+    Front,
     Hysteresis,
     Repeatability,
     Lh,
@@ -175,6 +178,23 @@ fn shifted_of(r: Run) -> Answer
     own_width(fit::shifted(g), span_of(r))
 }
 
+// Through the origin, where no input is negative.
+fn zero_of(r: Run) -> Answer
+    requires { ⌜ Checked r × (BelowZero Index.Zero r → ⊥) ⌝ }
+    ensures { λ a. ⌜ Given Index.Zero r a ⌝ }
+{
+    let g = band_of(Through::Means, r);
+    own_width(pin::zero(g), span_of(r))
+}
+
+fn front_of(r: Run) -> Answer
+    requires { ⌜ Checked r ⌝ }
+    ensures { λ a. ⌜ Given Index.Front r a ⌝ }
+{
+    let g = band_of(Through::Means, r);
+    own_width(pin::front(g), span_of(r))
+}
+
 // The best line through T, through U and D, or through the limit points.
 fn best_of(t: Through, r: Run) -> Answer
     requires { ⌜ Checked r × Cycles t r ⌝ }
@@ -195,18 +215,39 @@ fn wide_of(w: Width, r: Run) -> Answer
 
 // An index of a run that no check refuses.
 fn given(which: Index, r: Run) -> Answer
-    requires { ⌜ Checked r × (OneCycle which r → ⊥) ⌝ }
+    requires { ⌜ Checked r × (BelowZero which r → ⊥) × (OneCycle which r → ⊥) ⌝ }
     ensures { λ a. ⌜ Given which r a ⌝ }
 {
     match which {
         Index::Terminal => terminal_of(r),
         Index::Shifted => shifted_of(r),
         Index::Independent => best_of(Through::Means, r),
+        Index::Zero => zero_of(r),
+        Index::Front => front_of(r),
         Index::Hysteresis => wide_of(Width::Swing, r),
         Index::Repeatability => wide_of(Width::Scatter, r),
         Index::Lh => best_of(Through::Strokes, r),
         Index::Lhr => best_of(Through::Limits, r),
     }
+}
+
+fn is_from_zero(which: Index) -> bool
+    ensures { λ t. ⌜ t ≡ from-zero which ⌝ }
+{
+    match which {
+        Index::Zero => true,
+        _ => false,
+    }
+}
+
+// Whether an input is negative: inputs rise, so the first one tells.
+fn has_negative(r: Run) -> bool
+    requires { ⌜ Checked r ⌝ }
+    ensures { λ t. ⌜ t ≡ ltZ (input r 0) (pos 0) ⌝ }
+{
+    let x = run::input_at(r, 0);
+    let first = x.count;
+    first < 0
 }
 
 // Repeatability and LHR rest on the scatter of several cycles.
@@ -226,6 +267,9 @@ pub fn index_of(which: Index, r: Run) -> Answer
     let v = run::check(r);
     if v.number != 0 {
         return refuse(v.number, v.place);
+    }
+    if limits::both(is_from_zero(which), has_negative(r)) {
+        return refuse(15, 0);
     }
     let n = r.n;
     if limits::both(is_scatter(which), n == 1) {

@@ -1,7 +1,7 @@
 // Prints the lines through points, for the comparison with the second program.
 //
 // Standard input holds bands, each of numbers of 8 bytes, low byte first: m and d, then 11 inputs, 11 lowest and 11 highest values, each of these more by 2 to the 63rd.
-// For each band three lines are printed, `terminal`, `shifted` and `best`: width, slope and offset, or `several` and the width, or `improper`.
+// For each band five lines are printed, `terminal`, `shifted`, `best`, `zero` and `front`: width, slope and offset, or `several` and the width, or `improper`.
 use band::Band;
 use fit::Drawn;
 use fit::Fit;
@@ -54,6 +54,10 @@ fn print_lines(g: Band) {
     print_drawn(fit::shifted(g));
     io::write_all(STDOUT_FILENO, b"best");
     print_drawn(fit::best(g));
+    io::write_all(STDOUT_FILENO, b"zero");
+    print_drawn(pin::zero(g));
+    io::write_all(STDOUT_FILENO, b"front");
+    print_drawn(pin::front(g));
 }
 
 // Reads a band and prints its lines; false where none is left.

@@ -1,31 +1,36 @@
 -- A certificate that passes its tests shows that the answer is the one that is due.
 use mathlib.Core.Path.{_≡_}
-use mathlib.Core.Bool.{not, _&&_}
+use mathlib.Core.Bool.{not, _&&_, _||_}
 use mathlib.Core.List.{[], _∷_}
-use mathlib.Core.Logic.{_≢_}
+use mathlib.Core.Logic.{_≢_, ⊎-elim}
 use Prim.Native.Nat.{ℕ, _<_, _≤_}
 use native.Mathlib.Omega.{arith}
 use lib.Dec.{T, eqb, ltb→lt, eqb→eq}
-use mir.Facts.{yes-and, T-not, yes-eqb}
+use lib.IntN.{ℤ, pos}
+use lib.Signed.{leZ-yes, clashℤ}
+use mir.Facts.{yes-and, or-yes, T-not, yes-eqb}
+use Rattle.whole.specs.Every.{every, every-holds}
 use Rattle.run.specs.Limits.{verdict}
 use Rattle.run.specs.Checked.{Checked, checked}
 use Rattle.run.specs.declared.Run.{Run}
-use Rattle.band.specs.Line.{Line, Points, Proper, All}
+use Rattle.band.specs.Line.{Line, Points, Proper, All, Passing}
 use Rattle.band.specs.Candidate.{Candidate, wide, part}
+use Rattle.pin.specs.Pair as pair
 use Rattle.indices.specs.Through.{means, swing, scatter}
 use Rattle.indices.specs.Parts.{SamePoints}
 use Rattle.indices.specs.Transfer.{same-points-sym, proper-points, within-points, least-points, single-points}
 use Rattle.indices.specs.Admitted.{proper-means, proper-through}
-use Rattle.indices.specs.Due.{Best, Independent, Fits, scatters, OneCycle, Given, several, one-line, Due, given}
+use Rattle.indices.specs.Due.{Best, Independent, Fits, from-zero, BelowZero, scatters, OneCycle, Given, several, one-line, Due, given}
 use Rattle.indices.specs.declared.Answer.{Answer}
 use Rattle.indices.specs.declared.Index.{Index}
 use Rattle.indices.specs.declared.bands.Through.the-variants as lines
 use Rattle.promises.specs.Figures.{Figure}
 use Rattle.promises.specs.Tests.{all, single, half, line-of}
 use Rattle.promises.specs.TestLaws.{all-hold, alike-by, largest-of-by, stands-by, width-only-by}
-use Rattle.promises.specs.LineLaws.{single-by, best-alike, many-by, terminal-by, shifted-by}
+use Rattle.promises.specs.LineLaws.{single-by, best-alike, many-alike, many-by, terminal-by, shifted-by}
+use Rattle.promises.specs.PinLaws.{pinned-by, pinned-many-by}
 use Rattle.promises.specs.LimitLaws.{same-points, same-scatter, largest-same}
-use Rattle.promises.specs.Certificate.{limits, Shown, far, ends, best, swings, varies, lh, lhr, Certificate, lh-several, shows, gives, certifies}
+use Rattle.promises.specs.Certificate.{limits, Shown, far, ends, best, zero, front, swings, varies, lh, lhr, Certificate, zero-several, lh-several, best-through, shows, gives, from-zero-up, certifies}
 use Rattle.promises.specs.Certificate as certificate
 
 -- the best line of points that are the same
@@ -41,6 +46,12 @@ module _ {r : Run} (c : Checked r) (L : Line) where
   best-by : {P : Points} → Proper P → (e : Candidate) (w z : ℕ) → T (single P e L) → T (all (half P e w z)) → Best All P L w z
   best-by {P} proper e w z s t = best-alike (alike-by (wide P e) (part P e) w z t) (single-by proper e L s)
 
+  through-by : (x v : ℤ) (i j w z : ℕ) → T (all (best-through r x v i j L w z)) → Best (Passing (means r) x v) (means r) L w z
+  through-by x v i j w z t =
+      let P = means r in
+      let (s, (k, _)) = all-hold (best-through r x v i j L w z) t in
+      best-alike (alike-by (pair.wide P x v i j) (pair.part P x i j) w z k) (pinned-by (proper-means c) x v i j L s)
+
   -- scatter has two cycles or more
   abbrev Cycles : Index → Type 0
   Cycles which = T (scatters which) → 2 ≤ r .n
@@ -50,6 +61,8 @@ module _ {r : Run} (c : Checked r) (L : Line) where
   shows-by (far i) w z n h t = terminal-by (proper-means c) L w z i h t
   shows-by (ends i j) w z n h t = shifted-by (proper-means c) L w z i j t
   shows-by (best e) w z n h t = let (s, (k, _)) = all-hold (shows (best e) r L w z) t in best-by (proper-means c) e w z s k
+  shows-by (zero i j) w z n h t = through-by (pos 0) (pos 0) i j w z t
+  shows-by (front i j) w z n h t = through-by (means r .x 0) (means r .low 0) i j w z t
   shows-by (swings i e) w z n h t = let (s, (l, (k, _))) = all-hold (shows (swings i e) r L w z) t in (independent-by e s, largest-of-by (r .m) (swing r) w i l, eqb→eq z (r .n) k)
   shows-by (varies i e l) w z n h t =
       let (s, (g, (k, (u, _)))) = all-hold (shows (varies i e l) r L w z) t in
@@ -66,17 +79,27 @@ gives-by {r = r} {a} k n (certificate.one-line w z s) t =
     let (some, (line, (answer, _))) = all-hold (gives (certificate.one-line w z s) r a) t in
     let h = ltb→lt 0 z some in
     one-line (line-of a) w z h (shows-by k (line-of a) s w z n h line) (stands-by r (line-of a) w z a answer)
+gives-by {r = r} {a} k n (zero-several w z A B) t =
+    let (some, (both, (width, (answer, _)))) = all-hold (gives (zero-several w z A B) r a) t in
+    let o = width-only-by w z a answer in
+    several w z (ltb→lt 0 z some) (many-alike (alike-by _ _ w z width) (pinned-many-by (proper-means k) (pos 0) (pos 0) A B both)) (o .0) (o .1)
 gives-by {r = r} {a} k n (lh-several w z c A B) t =
     let (some, (both, (width, (answer, _)))) = all-hold (gives (lh-several w z c A B) r a) t in
     let o = width-only-by w z a answer in
     several w z (ltb→lt 0 z some) (many-by (proper-through k lines.Strokes) c width A B both) (o .0) (o .1)
 
+-- 15 is not due
+not-below : (which : Index) (r : Run) → T (not (from-zero which) || every (r .m) (from-zero-up r)) → BelowZero which r → ⊥
+not-below which r t b =
+    ⊎-elim (T-not (from-zero which) (b .asked)) (λ s. clashℤ (b .negative) (leZ-yes (every-holds (r .m) (from-zero-up r) s (b .at) (b .within))))
+    (or-yes (not (from-zero which)) (every (r .m) (from-zero-up r)) t)
+
 -- the law: a figure that a certificate certifies is the answer that is due
 pub certified : (f : Figure) (c : Certificate (f .which)) → T (certifies f c) → Due (f .which) (f .run) (f .answer)
 certified f c t =
     let r = f .run in
-    let (fine, (cycles, (answer, _))) = all-hold (eqb (verdict r .number) 0 ∷ not (scatters (f .which) && eqb (r .n) 1) ∷ all (gives c r (f .answer)) ∷ []) t in
+    let (fine, (inputs, (cycles, (answer, _)))) = all-hold (eqb (verdict r .number) 0 ∷ (not (from-zero (f .which)) || every (r .m) (from-zero-up r)) ∷ not (scatters (f .which) && eqb (r .n) 1) ∷ all (gives c r (f .answer)) ∷ []) t in
     let v : verdict r .number ≡ 0 = eqb→eq (verdict r .number) 0 fine in
     let more : OneCycle (f .which) r → ⊥ = λ o. T-not (scatters (f .which) && eqb (r .n) 1) (yes-and (scatters (f .which)) (eqb (r .n) 1) (o .0) (yes-eqb (o .1))) cycles in
     let k = checked r v in
-    given v more (gives-by k (λ s. let e : r .n ≢ 1 = λ e. more (s, e) in omega arith) c answer)
+    given v (not-below (f .which) r inputs) more (gives-by k (λ s. let e : r .n ≢ 1 = λ e. more (s, e) in omega arith) c answer)

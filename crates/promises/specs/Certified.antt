@@ -11,7 +11,7 @@ use Rattle.band.specs.Candidate.{one, up, down}
 use Rattle.indices.specs.Due.{Due}
 use Rattle.promises.specs.Figures.{Figure, figures}
 use Rattle.promises.specs.Tests.{line, divisor}
-use Rattle.promises.specs.Certificate.{Certificate, one-line, lh-several, far, ends, best, swings, varies, lh, lhr, Limits, certifies}
+use Rattle.promises.specs.Certificate.{Certificate, one-line, zero-several, lh-several, far, ends, best, zero, front, swings, varies, lh, lhr, Limits, certifies}
 use Rattle.promises.specs.CertificateLaws.{certified}
 
 -- P of each
@@ -33,14 +33,21 @@ certificates =
     one-line 69 5 (far 3)
     & one-line 97 10 (ends 3 4)
     & one-line 9 1 (best (up 0 3 4))
+    & one-line 10 1 (zero 4 3)
+    & one-line 72 7 (front 4 3)
     & one-line 206 5 (far 3)
     & one-line 80 3 (best (up 2 3 5))
+    & one-line 28 1 (zero 2 3)
+    & one-line 137 5 (front 2 3)
     & one-line 6 1 (lh (down 0 1 2))
     & lh-several 6 1 (one 1) (line (pos 10) (pos 2) 1) (line (pos 51) (pos 0) 5)
     & one-line 0 1 (best (up 0 1 2))
+    & zero-several 11 1 (line (pos 10) (pos 0) 1) (line (pos 201) (pos 0) 20)
     & one-line 97 1 (far 1)
     & one-line 97 2 (ends 1 0)
     & one-line 97 2 (best (up 0 1 2))
+    & one-line 64 1 (zero 2 1)
+    & one-line 194 3 (front 2 1)
     & one-line 20 2 (swings 1 (up 0 1 2))
     & one-line 36 2 (varies 1 (up 0 1 2) sample-limits)
     & one-line 52 1 (lh (up 0 1 2))

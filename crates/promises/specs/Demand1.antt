@@ -1,6 +1,6 @@
 -- Demand 1. "Every byte string given as a run file, and every run built by hand, gets its numbers or exactly one refusal of the paper's table, chosen by the paper's order of checks, with the fixed fields listed there; a lent buffer then holds what it held before."
 --
--- What it says: for each byte string, and for each run and index, there is exactly one answer that has its condition. The conditions stand row by row in `Because` (runfile) and `Due` (indices), each saying that none before it holds. The numbers are those of the paper's table, the fields under a refusal are the fixed ones, and a refused write or sheet leaves the buffer as it was.
+-- What it says: for each byte string, and for each run and index, there is exactly one answer that has its condition. The conditions stand row by row in `Because` (runfile) and `Due` (indices), each saying that none before it holds. The numbers are those of the paper's table and 15 of request C-11, the fields under a refusal are the fixed ones, and a refused write or sheet leaves the buffer as it was.
 -- What it does not say: what a program reads and prints. No contract can; the comparison with the second program holds it.
 use mathlib.Core.Path.{_≡_, refl, sym, ap, _∙_, subst}
 use mathlib.Core.List.{List, [], _∷_, _++_}
@@ -19,7 +19,7 @@ use Rattle.runfile.specs.Because.{Because}
 use Rattle.runfile.specs.Sentences.{sentence, only}
 use Rattle.averages.specs.Averages.{AveragesDue}
 use Rattle.averages.specs.Once.{one-averages}
-use Rattle.indices.specs.Due.{refused, only-width, Due, no-run, one-cycle, given, several, one-line}
+use Rattle.indices.specs.Due.{refused, only-width, Due, no-run, below-zero, one-cycle, given, several, one-line}
 use Rattle.indices.specs.Once.{one-answer}
 use Rattle.indices.specs.declared.Answer.{Answer}
 use Rattle.indices.specs.declared.Index.{Index}
@@ -41,12 +41,13 @@ abbrev pub Among : ℕ → List ℕ → Type 0
 Among n [] = ⊥
 Among n (k ∷ ks) = (n ≡ k) ⊎ Among n ks
 
--- the fixed fields: under 11 the width and the line stand, under 12 the width alone, under any other refusal nothing. The place is 0 when accepted, and under 11, 12 and 13
+-- the fixed fields: under 11 the width and the line stand, under 12 the width alone, under any other refusal nothing. The place is 0 when accepted, and under 11, 12, 13 and 15
 pub record Fixed (a : Answer) : Type 0 where
   pub accepted : a .number ≡ 0 → a .place ≡ 0
   pub flat : a .number ≡ 11 → (a .place ≡ 0) × (a .index ≡ nought) × (a .thousandths ≡ 0)
   pub several : a .number ≡ 12 → a ≡ only-width (a .width)
   pub one-cycle : a .number ≡ 13 → a ≡ refused 13 0
+  pub below-zero : a .number ≡ 15 → a ≡ refused 15 0
   pub no-run : a .number ≤ 10 → (a .number ≡ 0 → ⊥) → a ≡ refused (a .number) (a .place)
 
 -- what is answered and what a lent buffer then holds
@@ -61,7 +62,7 @@ pub record Answered : Type 0 where
   pub file-refused : (s : List ℕ) → (meaning s .number ≡ 0 → ⊥) → meaning s .run ≡ zeros
   -- a run built by hand
   pub index : (which : Index) (r : Run) → ExactlyOne (Due which r)
-  pub index-number : (which : Index) (r : Run) (a : Answer) → Due which r a → Among (a .number) (0 ∷ 3 ∷ 5 ∷ 9 ∷ 10 ∷ 11 ∷ 12 ∷ 13 ∷ [])
+  pub index-number : (which : Index) (r : Run) (a : Answer) → Due which r a → Among (a .number) (0 ∷ 3 ∷ 5 ∷ 9 ∷ 10 ∷ 11 ∷ 12 ∷ 13 ∷ 15 ∷ [])
   pub index-fixed : (which : Index) (r : Run) (a : Answer) → Due which r a → Fixed a
   pub averages : (r : Run) → ExactlyOne (AveragesDue r)
   -- a buffer lent to the writer
@@ -75,16 +76,20 @@ pub record Answered : Type 0 where
 -- ---- it holds
 -- the number of an index
 abbrev IndexNumber : ℕ → Type 0
-IndexNumber n = Among n (0 ∷ 3 ∷ 5 ∷ 9 ∷ 10 ∷ 11 ∷ 12 ∷ 13 ∷ [])
+IndexNumber n = Among n (0 ∷ 3 ∷ 5 ∷ 9 ∷ 10 ∷ 11 ∷ 12 ∷ 13 ∷ 15 ∷ [])
 
 number-among : {which : Index} {r : Run} {a : Answer} → Due which r a → IndexNumber (a .number)
 number-among {r = r} (no-run n e) =
     subst IndexNumber (sym (ap (λ (a : Answer). a .number) e)) (verdict-ind r IndexNumber (inl refl) (inr (inl refl)) (inr (inr (inl refl))) (inr (inr (inr (inl refl)))) (inr (inr (inr (inr (inl refl))))))
-number-among (one-cycle v o e) = inr (inr (inr (inr (inr (inr (inr (inl (ap (λ (a : Answer). a .number) e))))))))
-number-among (given v o (several w z h m f e)) = inr (inr (inr (inr (inr (inr (inl (ap (λ (a : Answer). a .number) e)))))))
-number-among (given v o (one-line L w z h f s)) = stands-ind s IndexNumber (inl refl) (inr (inr (inr (inr (inr (inl refl))))))
+number-among (below-zero v b e) = inr (inr (inr (inr (inr (inr (inr (inr (inl (ap (λ (a : Answer). a .number) e)))))))))
+number-among (one-cycle v n o e) = inr (inr (inr (inr (inr (inr (inr (inl (ap (λ (a : Answer). a .number) e))))))))
+number-among (given v n o (several w z h m f e)) = inr (inr (inr (inr (inr (inr (inl (ap (λ (a : Answer). a .number) e)))))))
+number-among (given v n o (one-line L w z h f s)) = stands-ind s IndexNumber (inl refl) (inr (inr (inr (inr (inr (inl refl))))))
 
--- the fields of an index
+-- the fields of an index: under 12 and more
+more : {a : Answer} → 12 ≤ a .number → (a .number ≡ 12 → a ≡ only-width (a .width)) → (a .number ≡ 13 → a ≡ refused 13 0) → (a .number ≡ 15 → a ≡ refused 15 0) → Fixed a
+more h twelve thirteen fifteen = record { accepted = λ i. absurd (omega arith); flat = λ i. absurd (omega arith); several = twelve; one-cycle = thirteen; below-zero = fifteen; no-run = λ l _. absurd (omega arith) }
+
 fixed : {which : Index} {r : Run} {a : Answer} → Due which r a → Fixed a
 fixed {r = r} {a} (no-run n e) =
     let k : a .number ≡ verdict r .number = ap (λ (a : Answer). a .number) e in
@@ -94,20 +99,25 @@ fixed {r = r} {a} (no-run n e) =
       flat = λ i. absurd (omega arith);
       several = λ i. absurd (omega arith);
       one-cycle = λ i. absurd (omega arith);
+      below-zero = λ i. absurd (omega arith);
       no-run = λ _ _. e ∙ sym (ap (λ (a : Answer). refused (a .number) (a .place)) e);
     }
-fixed {a = a} (one-cycle v o e) =
+fixed {a = a} (below-zero v b e) =
+    let k : a .number ≡ 15 = ap (λ (a : Answer). a .number) e in
+    more (omega arith) (λ i. absurd (omega arith)) (λ i. absurd (omega arith)) (λ _. e)
+fixed {a = a} (one-cycle v n o e) =
     let k : a .number ≡ 13 = ap (λ (a : Answer). a .number) e in
-    record { accepted = λ i. absurd (omega arith); flat = λ i. absurd (omega arith); several = λ i. absurd (omega arith); one-cycle = λ _. e; no-run = λ h _. absurd (omega arith) }
-fixed {a = a} (given v o (several w z h m f e)) =
+    more (omega arith) (λ i. absurd (omega arith)) (λ _. e) (λ i. absurd (omega arith))
+fixed {a = a} (given v n o (several w z h m f e)) =
     let k : a .number ≡ 12 = ap (λ (a : Answer). a .number) e in
-    record { accepted = λ i. absurd (omega arith); flat = λ i. absurd (omega arith); several = λ _. e; one-cycle = λ i. absurd (omega arith); no-run = λ h _. absurd (omega arith) }
-fixed {a = a} (given v o (one-line L w z h f s)) =
+    more (omega arith) (λ _. e) (λ i. absurd (omega arith)) (λ i. absurd (omega arith))
+fixed (given v n o (one-line L w z h f s)) =
     record {
       accepted = λ _. s .place;
       flat = λ i. (s .place, flat-index s i .0, flat-index s i .1);
       several = λ i. absurd (stands-ind s (λ n. n ≡ 12 → ⊥) (λ e. omega arith) (λ e. omega arith) i);
       one-cycle = λ i. absurd (stands-ind s (λ n. n ≡ 13 → ⊥) (λ e. omega arith) (λ e. omega arith) i);
+      below-zero = λ i. absurd (stands-ind s (λ n. n ≡ 15 → ⊥) (λ e. omega arith) (λ e. omega arith) i);
       no-run = λ i n. absurd (stands-ind s (λ n. n ≤ 10 → (n ≡ 0 → ⊥) → ⊥) (λ _ n. n refl) (λ i _. omega arith) i n);
     }
 

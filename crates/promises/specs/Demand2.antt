@@ -1,18 +1,20 @@
 -- Demand 2. "Each accepted run gives exactly the means, lines and indices of the Standard, as fractions in lowest terms. The independent line has the least largest deviation. Writing a run and reading it back gives the same run; reading a file and writing it gives the same records in travel order."
 --
--- What it says: of a run that no check refuses, every mean is the sum over all n cycles over its unit; an index that is accepted has a line and a width that `Fits` names for it, and is that width over the full-span output of that line; under 11 that line has slope zero, and under 12 several lines reach the width; all fractions are in lowest terms. The reported independent line keeps every mean within the reported width, and no line of fractions keeps them within less. That these answers exist and are the only ones is demand 1.
+-- What it says: of a run that no check refuses, every mean is the sum over all n cycles over its unit; an index that is accepted has a line and a width that `Fits` names for it, and is that width over the full-span output of that line; under 11 that line has slope zero, and under 12 several lines reach the width; all fractions are in lowest terms. The reported independent line keeps every mean within the reported width, and no line of fractions keeps them within less; the same holds of the zero-based line among the lines through the origin, and of the front terminal-based line among those through the first point, where no other line ever reaches the width. 15 is given exactly where the zero-based index is asked for and an input is negative. That these answers exist and are the only ones is demand 1.
 -- What it does not say: that a sensor's readings are right, or that a file holds the readings that were taken.
 use mathlib.Core.Path.{_≡_, refl, sym, ap, _∙_}
 use mathlib.Core.List.{List}
-use Prim.Native.Nat.{ℕ, zero, suc, _*_, _-_, _<_}
+use Prim.Native.Nat.{ℕ, zero, suc, _*_, _-_, _<_, _≤_}
 use native.Mathlib.Nat.{mul-pos}
 use native.Mathlib.Omega.{arith}
 use lib.IntN.{ℤ, pos, negsuc, natAbs, ℤ-discrete}
 use lib.ListN.{getD}
+use lib.Signed.{_<ℤ_}
 use Rattle.whole.specs.Sign.{lt-sign, nat-positive}
 use Rattle.exact.specs.Value.{Worth, Lowest, Made, nought}
 use Rattle.exact.specs.Rounding.{Nearest}
 use Rattle.exact.specs.declared.Fraction.{Fraction}
+use Rattle.run.specs.Run.{input}
 use Rattle.run.specs.Limits.{verdict}
 use Rattle.run.specs.Checked.{Checked, checked, verdict-fine}
 use Rattle.run.specs.declared.Run.{Run}
@@ -27,17 +29,17 @@ use Rattle.runfile.specs.Accepted.{Rewritten, rewritten}
 use Rattle.averages.specs.Averages as averages
 use Rattle.averages.specs.Averages.{AveragesDue}
 use Rattle.averages.specs.declared.Averages.{Averages}
-use Rattle.band.specs.Line.{Line, All}
-use Rattle.band.specs.Same.{same-within}
-use Rattle.fit.specs.Scaled.{within-alike, least-alike, single-alike}
+use Rattle.band.specs.Line.{Line, All, Zero, Front, Least, Single}
+use Rattle.pin.specs.Exists.{front-single}
 use Rattle.indices.specs.Through.{means}
-use Rattle.indices.specs.Due.{Best, Fits, SeveralFit, span, Stands, Given, several, one-line, Due, no-run, one-cycle, given}
+use Rattle.indices.specs.Due.{Best, Fits, SeveralFit, span, Stands, Given, several, one-line, Due, no-run, below-zero, one-cycle, given}
 use Rattle.indices.specs.Admitted.{proper-means}
 use Rattle.indices.specs.declared.Answer.{Answer}
 use Rattle.indices.specs.declared.Index.{Index}
 use Rattle.indices.specs.declared.Index.the-variants as kinds
 use Rattle.promises.specs.Reported.{Reports}
-use Rattle.promises.specs.ReportedLaws.{made-alike, reported}
+use Rattle.promises.specs.ReportedLaws.{the-independent, the-zero, the-front}
+use Rattle.promises.specs.Numbers.{the-negative, fifteen}
 
 -- f is n/d, in lowest terms
 pub record Is (n : ℤ) (d : ℕ) (f : Fraction) : Type 0 where
@@ -87,6 +89,14 @@ pub record Standard (r : Run) : Type 0 where
   pub divided : (which : Index) (a : Answer) → Due which r a → a .number ≡ 12 → Divided which r a
   -- the reported independent line has the least largest deviation, under 11 too
   pub independent : (a : Answer) → Due kinds.Independent r a → (L : Line) → Reports a L → Best All (means r) L (natAbs (a .width .num)) (a .width .den)
+  -- the reported zero-based line has the least of the lines through the origin, and the front terminal-based line the least of those through the first point
+  pub zero : (a : Answer) → Due kinds.Zero r a → (a .number ≡ 12 → ⊥) → (a .number ≡ 15 → ⊥) → (L : Line) → Reports a L → Best (Zero (means r)) (means r) L (natAbs (a .width .num)) (a .width .den)
+  pub front : (a : Answer) → Due kinds.Front r a → (L : Line) → Reports a L → Best (Front (means r)) (means r) L (natAbs (a .width .num)) (a .width .den)
+  -- 12 is never due for the front terminal-based line: where a line through the first point has the least, it is the only one
+  pub front-single : (w z : ℕ) → Least (Front (means r)) (means r) w z → Single (Front (means r)) (means r) w z
+  -- 15 is due for the zero-based line exactly where an input is negative
+  pub below-zero : (a : Answer) → Due kinds.Zero r a → a .number ≡ 15 → (i : ℕ) × (i < r .m) × (input r i <ℤ pos 0)
+  pub negative : (a : Answer) → Due kinds.Zero r a → (i : ℕ) → i < r .m → input r i <ℤ pos 0 → a .number ≡ 15
   -- written and read back it is the same run, with zeros beyond m and n
   pub back : meaning (file r) ≡ read.given (trimmed r)
   pub same : TrimmedOf r (trimmed r)
@@ -124,14 +134,15 @@ module _ (r : Run) (e : verdict r .number ≡ 0) where
   abbrev drawn-by : {which : Index} {a : Answer} (L : Line) (w z : ℕ) → 0 < z → Fits which r L w z → Stands r L w z a → Drawn which r a
   drawn-by L w z some fits s = record { line = L; w = w; z = z; fits = fits; width = made-is some (s .width); slope = made-is (L .some) (s .slope); offset = made-is (L .some) (s .offset) }
 
-  -- what an answer with a number k says, where no refusal of the run and no 13 is due
-  by-number : {which : Index} {a : Answer} {P : Type 0} (k : ℕ) → Due which r a → a .number ≡ k → (13 ≡ k → ⊥) → (Given which r a → P) → P
-  by-number k (no-run n _) number other f = absurd (n e)
-  by-number k (one-cycle _ _ q) number other f = absurd (other (sym (ap (λ (a : Answer). a .number) q) ∙ number))
-  by-number k (given _ _ g) number other f = f g
+  -- what an answer with a number k says, where no refusal of the run and neither 15 nor 13 is due
+  by-number : {which : Index} {a : Answer} {P : Type 0} (k : ℕ) → Due which r a → a .number ≡ k → k ≤ 12 → (Given which r a → P) → P
+  by-number k (no-run n _) number most f = absurd (n e)
+  by-number k (below-zero _ _ q) number most f = let z : 15 ≡ k = sym (ap (λ (a : Answer). a .number) q) ∙ number in absurd (omega arith)
+  by-number k (one-cycle _ _ _ q) number most f = let z : 13 ≡ k = sym (ap (λ (a : Answer). a .number) q) ∙ number in absurd (omega arith)
+  by-number k (given _ _ _ g) number most f = f g
 
   the-index : (which : Index) (a : Answer) → Due which r a → a .number ≡ 0 → Accepted which r a
-  the-index which a due number = by-number 0 due number (λ z. absurd (omega arith)) go
+  the-index which a due number = by-number 0 due number (omega arith) go
     where
       go : Given which r a → Accepted which r a
       go (several w z _ _ _ q) = let z : _≡_ {A = ℕ} 12 0 = sym (ap (λ (a : Answer). a .number) q) ∙ number in absurd (omega arith)
@@ -140,7 +151,7 @@ module _ (r : Run) (e : verdict r .number ≡ 0) where
           record { drawn = drawn-by L w z some fits s; output = out; index = made-is (mul-pos some out) (s .index); thousandths = s .thousandths }
 
   the-flat : (which : Index) (a : Answer) → Due which r a → a .number ≡ 11 → Flat which r a
-  the-flat which a due number = by-number 11 due number (λ z. absurd (omega arith)) go
+  the-flat which a due number = by-number 11 due number (omega arith) go
     where
       go : Given which r a → Flat which r a
       go (several w z _ _ _ q) = let z : _≡_ {A = ℕ} 12 11 = sym (ap (λ (a : Answer). a .number) q) ∙ number in absurd (omega arith)
@@ -151,7 +162,7 @@ module _ (r : Run) (e : verdict r .number ≡ 0) where
           level (no d) = let z : _≡_ {A = ℕ} 0 11 = sym (s .sloping d) ∙ number in absurd (omega arith)
 
   the-divided : (which : Index) (a : Answer) → Due which r a → a .number ≡ 12 → Divided which r a
-  the-divided which a due number = by-number 12 due number (λ z. absurd (omega arith)) go
+  the-divided which a due number = by-number 12 due number (omega arith) go
     where
       go : Given which r a → Divided which r a
       go (several w z some m u _) = record { w = w; z = z; several = m; width = made-is some u }
@@ -161,21 +172,23 @@ module _ (r : Run) (e : verdict r .number ≡ 0) where
           apart (yes d) = let z : _≡_ {A = ℕ} 11 12 = sym (s .flat d) ∙ number in omega arith
           apart (no d) = let z : _≡_ {A = ℕ} 0 12 = sym (s .sloping d) ∙ number in omega arith
 
-  the-independent : (a : Answer) → Due kinds.Independent r a → (L : Line) → Reports a L → Best All (means r) L (natAbs (a .width .num)) (a .width .den)
-  the-independent a (no-run n _) L p = absurd (n e)
-  the-independent a (one-cycle _ o _) L p = absurd (o .0)
-  the-independent a (given _ _ (several w z _ m _ _)) L p = absurd m
-  the-independent a (given _ _ (one-line M w z some best s)) L p =
-      let alike = made-alike some (s .width) in
-      record {
-        member = tt;
-        reached = within-alike alike (same-within (reported s p) (best .reached));
-        least = least-alike alike (best .least);
-        single = single-alike alike (best .single);
-      }
-
 pub demand-2 : Demand2
 demand-2 = record {
-  run = λ r e. let v = verdict-fine r e in record { averages = the-means r e; index = the-index r e; flat = the-flat r e; divided = the-divided r e; independent = the-independent r e; back = trip r v; same = trimmed-is r v };
+  run = λ r e.
+      let v = verdict-fine r e in
+      record {
+        averages = the-means r e;
+        index = the-index r e;
+        flat = the-flat r e;
+        divided = the-divided r e;
+        independent = the-independent r e;
+        zero = the-zero r e;
+        front = the-front r e;
+        front-single = λ w z. front-single (proper-means (checked r e)) (λ i h. refl);
+        below-zero = the-negative r e;
+        negative = fifteen r e;
+        back = trip r v;
+        same = trimmed-is r v;
+      };
   rewritten = rewritten;
 }

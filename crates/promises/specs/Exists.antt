@@ -1,18 +1,23 @@
 -- For each run and index some answer is due.
 use mathlib.Core.Path.{_≡_, refl}
 use mathlib.Core.Bool.{Bool, true, false}
+use mathlib.Core.Logic.{_⊎_, inl, inr}
 use Prim.Native.Nat.{ℕ, _*_, _<_}
 use native.Mathlib.Decide.{ℕ-discrete}
 use native.Mathlib.Omega.{arith}
 use lib.Dec.{T}
 use lib.IntN.{ℤ, pos, natAbs, ℤ-discrete}
+use lib.Signed.{_≤ℤ_, _<ℤ_, clashℤ}
+use Rattle.whole.specs.Sign.{le-or-gt}
+use Rattle.run.specs.Run.{input}
 use Rattle.run.specs.Limits.{verdict}
 use Rattle.run.specs.Checked.{Checked, checked}
 use Rattle.run.specs.declared.Run.{Run}
 use Rattle.groups.specs.Sums.{limit}
-use Rattle.band.specs.Line.{Line, Points, All}
+use Rattle.band.specs.Line.{Line, Points}
 use Rattle.indices.specs.Through.{LargestOf, swing, scatter}
-use Rattle.indices.specs.Due.{Best, Independent, Fits, Many, SeveralFit, refused, only-width, span, Stands, scatters, OneCycle, Given, several, one-line, Due, no-run, one-cycle, given}
+use Rattle.indices.specs.Due.{Best, Independent, Fits, Many, SeveralFit, refused, only-width, span, Stands, from-zero, BelowZero, scatters, OneCycle, Given, several, one-line, Due, no-run, below-zero, one-cycle, given}
+use Rattle.indices.specs.Pinned.{first-negative, below-first, not-negative}
 use Rattle.indices.specs.declared.Answer.{Answer}
 use Rattle.indices.specs.declared.Index.{Index}
 use Rattle.indices.specs.declared.Index.the-variants as index
@@ -20,6 +25,7 @@ use Rattle.indices.specs.declared.bands.Through.the-variants as lines
 use Rattle.promises.specs.Some.{some-made, some-nearest, some-largest}
 use Rattle.promises.specs.Lines as L
 use Rattle.promises.specs.Lines.{TheBest, Fitted, some-fit, independent}
+use Rattle.promises.specs.Pins.{through-origin, through-first}
 use Rattle.promises.specs.Ends.{SomeFit, terminal-fit, shifted-fit}
 
 -- ---- an answer with a line
@@ -58,11 +64,11 @@ with-width : (which : Index) {r : Run} (w z : ℕ) → 0 < z → SeveralFit whic
 with-width which w z h m = let f = some-made (pos w) z in (only-width (f .0), several w z h m (f .1) refl)
 
 -- the best line of some points, or several lines that reach its width
-module _ (which : Index) {r : Run} {P : Points} (fits : (L : Line) (w z : ℕ) → Best All P L w z → Fits which r L w z) where
-  with-best : TheBest P → Some which r
+module _ (which : Index) {r : Run} {F : Line → Type 0} {P : Points} (fits : (L : Line) (w z : ℕ) → Best F P L w z → Fits which r L w z) where
+  with-best : TheBest F P → Some which r
   with-best b = with-line which (record { line = b .line; w = b .w; z = b .z; some = b .some; fits = fits (b .line) (b .w) (b .z) (b .best) })
 
-  with-fitted : ((w z : ℕ) → Many P w z → SeveralFit which r w z) → Fitted P → Some which r
+  with-fitted : ((w z : ℕ) → Many F P w z → SeveralFit which r w z) → Fitted F P → Some which r
   with-fitted many (L.one-line b) = with-best b
   with-fitted many (L.many w z h m) = with-width which w z h (many w z m)
 
@@ -74,33 +80,45 @@ module _ {r : Run} (c : Checked r) where
       let l = some-largest (r .m) (omega (arith, c .m-least)) g in
       with-line which (record { line = b .line; w = l .0; z = r .n; some = c .n-least; fits = fits (b .line) (l .0) (record { w = b .w; z = b .z; best = b .best }) (l .1) })
 
-  some-given : (which : Index) → (OneCycle which r → ⊥) → Some which r
-  some-given index.Terminal more = with-line index.Terminal (terminal-fit c)
-  some-given index.Shifted more = with-line index.Shifted (shifted-fit c)
-  some-given index.Independent more = with-best index.Independent (λ L w z b. b) (independent c)
-  some-given index.Hysteresis more = with-other index.Hysteresis (swing r) (λ L w i l. (i, l, refl))
-  some-given index.Repeatability more = with-other index.Repeatability (scatter (limit r)) (λ L w i l. (i, l, refl))
-  some-given index.Lh more = with-fitted index.Lh (λ L w z b. b) (λ w z m. m) (some-fit c lines.Strokes tt)
-  some-given index.Lhr more =
+  some-given : (which : Index) → (BelowZero which r → ⊥) → (OneCycle which r → ⊥) → Some which r
+  some-given index.Terminal none more = with-line index.Terminal (terminal-fit c)
+  some-given index.Shifted none more = with-line index.Shifted (shifted-fit c)
+  some-given index.Independent none more = with-best index.Independent (λ L w z b. b) (independent c)
+  some-given index.Zero none more = with-fitted index.Zero (λ L w z b. b) (λ w z m. m) (through-origin c (not-negative none))
+  some-given index.Front none more = with-best index.Front (λ L w z b. b) (through-first c)
+  some-given index.Hysteresis none more = with-other index.Hysteresis (swing r) (λ L w i l. (i, l, refl))
+  some-given index.Repeatability none more = with-other index.Repeatability (scatter (limit r)) (λ L w i l. (i, l, refl))
+  some-given index.Lh none more = with-fitted index.Lh (λ L w z b. b) (λ w z m. m) (some-fit c lines.Strokes tt)
+  some-given index.Lhr none more =
       let not-one : r .n ≡ 1 → ⊥ = λ e. more (tt, e) in
       with-fitted index.Lhr (λ L w z b. b) (λ w z m. m) (some-fit c lines.Limits (omega (arith, not-one, c .n-least)))
 
 -- ---- an answer
-asks-more : (b : Bool) (n : ℕ) → Dec (T b × (n ≡ 1))
-asks-more false n = no (λ h. h .0)
-asks-more true n = go (ℕ-discrete n 1)
+asked : (b : Bool) → Dec (T b)
+asked false = no (λ t. t)
+asked true = yes tt
+
+below : (which : Index) {r : Run} → Checked r → Dec (T (from-zero which)) → Dec (BelowZero which r)
+below which c (no n) = no (λ b. n (b .asked))
+below which {r} c (yes t) = go (le-or-gt (pos 0) (input r 0))
   where
-    go : Dec (n ≡ 1) → Dec (T true × (n ≡ 1))
-    go (yes e) = yes (tt, e)
-    go (no d) = no (λ h. d (h .1))
+    go : (pos 0 ≤ℤ input r 0) ⊎ (input r 0 <ℤ pos 0) → Dec (BelowZero which r)
+    go (inl h) = no (λ b. clashℤ (first-negative c b) h)
+    go (inr l) = yes (below-first c t l)
+
+once : (which : Index) (r : Run) → Dec (T (scatters which)) → Dec (r .n ≡ 1) → Dec (OneCycle which r)
+once which r (no n) _ = no (λ o. n (o .0))
+once which r (yes t) (yes e) = yes (t, e)
+once which r (yes t) (no d) = no (λ o. d (o .1))
 
 pub some-answer : (which : Index) (r : Run) → (a : Answer) × Due which r a
 some-answer which r = go (ℕ-discrete (verdict r .number) 0)
   where
-    accepted : verdict r .number ≡ 0 → Dec (OneCycle which r) → (a : Answer) × Due which r a
-    accepted e (yes o) = (refused 13 0, one-cycle e o refl)
-    accepted e (no more) = let g = some-given (checked r e) which more in (g .0, given e more (g .1))
+    accepted : verdict r .number ≡ 0 → Dec (BelowZero which r) → Dec (OneCycle which r) → (a : Answer) × Due which r a
+    accepted e (yes b) _ = (refused 15 0, below-zero e b refl)
+    accepted e (no n) (yes o) = (refused 13 0, one-cycle e n o refl)
+    accepted e (no n) (no more) = let g = some-given (checked r e) which n more in (g .0, given e n more (g .1))
 
     go : Dec (verdict r .number ≡ 0) → (a : Answer) × Due which r a
-    go (yes e) = accepted e (asks-more (scatters which) (r .n))
+    go (yes e) = accepted e (below which (checked r e) (asked (from-zero which))) (once which r (asked (scatters which)) (ℕ-discrete (r .n) 1))
     go (no n) = (refused (verdict r .number) (verdict r .place), no-run n refl)

@@ -12,6 +12,7 @@ pub mod Roots
 pub mod Rounded
 pub mod Some
 pub mod Lines
+pub mod Pins
 pub mod Ends
 pub mod Exists
 pub mod Sheets
@@ -19,6 +20,7 @@ pub mod Numbers
 pub mod Tests
 pub mod TestLaws
 pub mod LineLaws
+pub mod PinLaws
 pub mod LimitLaws
 pub mod Certificate
 pub mod CertificateLaws

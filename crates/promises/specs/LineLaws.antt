@@ -1,6 +1,6 @@
 -- What the tests of lines show: that a candidate is the greatest, and with it the least width, the only line, several lines; the terminal and the shifted line.
 use mathlib.Core.Path.{_≡_, refl, sym, ap, ap₂, _∙_, subst}
-use mathlib.Core.Bool.{not, _&&_}
+use mathlib.Core.Bool.{_&&_}
 use mathlib.Core.List.{_∷_, []}
 use mathlib.Core.Logic.{inl}
 use Prim.Native.Nat.{ℕ, _*_, _<_}
@@ -12,7 +12,7 @@ use Rattle.whole.specs.Every.{every, every-holds}
 use Rattle.whole.specs.Poly.{var, lit, _⊖_, _⊗_}
 use Rattle.whole.specs.Ring.{ring}
 use Rattle.whole.specs.Sign.{NonNeg, Positive, le-sign, sign-le, nat-nonneg, positive-nat, positive-mul, cancel-le}
-use Rattle.band.specs.Line.{Line, Points, Proper, Within, Largest, All, Parallel, Single, Terminal}
+use Rattle.band.specs.Line.{Line, Points, Proper, Within, Largest, All, Parallel, Single, Same, Terminal}
 use Rattle.band.specs.Candidate.{Candidate, one, up, down, num, den, Fits, Greatest, wide, part, part-is}
 use Rattle.band.specs.Seen.{seen, level, seen-num, seen-rising, within-inside}
 use Rattle.band.specs.Bound.{inside-bounded}
@@ -25,7 +25,7 @@ use Rattle.band.specs.Shift.{Range, moved-least, moved-single}
 use Rattle.band.specs.Same.{through}
 use Rattle.fit.specs.Scaled.{Alike, within-alike, least-alike, several-alike, single-alike, least-family, single-family, parallel-same}
 use Rattle.indices.specs.Due.{Best, Many}
-use Rattle.promises.specs.Tests.{all, same, height, top, near, within, among, triple, greatest, single, half, many, terminal, between, shifted}
+use Rattle.promises.specs.Tests.{all, same, height, top, near, within, among, triple, greatest, single, half, unlike, many, terminal, between, shifted}
 use Rattle.promises.specs.TestLaws.{all-hold, same-is, alike-by}
 
 pub within-by : (P : Points) (L : Line) (w z : ℕ) → T (within P L w z) → Within P L w z
@@ -59,6 +59,12 @@ kept-greatest {P} proper c f n L W = record { fits = f; all = λ e h. sign-le (c
         ap₂ (λ (w v : ℤ). pos 2 *ℤ (w *ℤ (pos (L .q) *ℤ pos (P .d))) *ℤ den P e -ℤ v) (nat-nonneg n) (seen-num P L (part P c) e ∙ ap (λ (z : ℤ). z *ℤ pos (L .q) *ℤ num P e) (part-is proper c f))
         ∙ ring (num P c ∷ den P c ∷ pos (L .q) ∷ pos (P .d) ∷ num P e ∷ den P e ∷ []) (lit 2 ⊗ (m ⊗ (q ⊗ d)) ⊗ var 5 ⊖ lit 2 ⊗ k ⊗ d ⊗ q ⊗ var 4) (lit 2 ⊗ (q ⊗ d) ⊗ (m ⊗ var 5 ⊖ var 4 ⊗ k)) tt
 
+-- two slopes that the test tells apart
+pub differ : (A B : Line) → T (unlike A B) → Same A B → ⊥
+differ A B t e =
+    let a = A .a *ℤ pos (B .q) in
+    T-not (same a (B .a *ℤ pos (A .q))) (subst (λ (b : ℤ). T (same a b)) (e .slope) (yes-and (leZ a a) (leZ a a) (≤ℤ-refl a .le) (≤ℤ-refl a .le))) t
+
 module _ {P : Points} (proper : Proper P) (c : Candidate) where
   greatest-by : (L : Line) → T (all (greatest P c L)) → Greatest P c × Within P L (wide P c) (part P c)
   greatest-by L t =
@@ -71,18 +77,15 @@ module _ {P : Points} (proper : Proper P) (c : Candidate) where
     is-half = alike-by (wide P c) (part P c) w z t
 
     -- several lines reach the width
-    pub many-by : (A B : Line) → T (all (many P c A B)) → Many P w z
+    pub many-by : (A B : Line) → T (all (many P c A B)) → Many All P w z
     many-by A B s =
         let (keeps, (also, (apart, _))) = all-hold (many P c A B) s in
         let g = greatest-by A keeps in
         let W = within-by P B (wide P c) (part P c) also in
         record {
           least = least-alike is-half (least proper c (g .0));
-          several = several-alike is-half (record { one = A; two = B; one-of = tt; two-of = tt; one-in = g .1; two-in = W; differ = λ e. differ apart (e .slope) });
+          several = several-alike is-half (record { one = A; two = B; one-of = tt; two-of = tt; one-in = g .1; two-in = W; differ = differ A B apart });
         }
-      where
-        differ : {a b : ℤ} → T (not (same a b)) → a ≡ b → ⊥
-        differ {a} {b} t e = T-not (same a b) (subst (λ (t : ℤ). T (same a t)) e (yes-and (leZ a a) (leZ a a) (≤ℤ-refl a .le) (≤ℤ-refl a .le))) t
 
 -- three points fix the line
 only : {P : Points} → Proper P → (c : Candidate) → T (triple c) → Greatest P c → Single All P (wide P c) (part P c)
@@ -99,6 +102,9 @@ single-by {P} proper c L t =
 
 pub best-alike : {F : Line → Type 0} {P : Points} {L : Line} {w z w′ z′ : ℕ} → Alike w z w′ z′ → Best F P L w z → Best F P L w′ z′
 best-alike e b = record { member = b .member; reached = within-alike e (b .reached); least = least-alike e (b .least); single = single-alike e (b .single) }
+
+pub many-alike : {F : Line → Type 0} {P : Points} {w z w′ z′ : ℕ} → Alike w z w′ z′ → Many F P w z → Many F P w′ z′
+many-alike e m = record { least = least-alike e (m .least); several = several-alike e (m .several) }
 
 -- ---- the terminal line
 -- it passes through the ends, and one point lies as far from it as the width

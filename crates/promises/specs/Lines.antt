@@ -37,16 +37,17 @@ use Rattle.indices.specs.BandLaws.{through-m}
 use Rattle.indices.specs.declared.bands.Through.{Through}
 use Rattle.indices.specs.declared.bands.Through.the-variants as lines
 
-pub record TheBest (P : Points) : Type 0 where
+-- of the lines of the family F
+pub record TheBest (F : Line → Type 0) (P : Points) : Type 0 where
   pub line : Line
   pub w : ℕ
   pub z : ℕ
   pub some : 0 < z
-  pub best : Best All P line w z
+  pub best : Best F P line w z
 
-pub data Fitted (P : Points) : Type 0 where
-  one-line : TheBest P → Fitted P
-  many : (w z : ℕ) → 0 < z → Many P w z → Fitted P
+pub data Fitted (F : Line → Type 0) (P : Points) : Type 0 where
+  one-line : TheBest F P → Fitted F P
+  many : (w z : ℕ) → 0 < z → Many F P w z → Fitted F P
 
 -- ---- the points of a band
 -- the input of a candidate `one`
@@ -59,13 +60,13 @@ module _ {g : Band} (a : Admitted g) where
   abbrev P : Points
   P = points g
 
-  single-best : (c : Candidate) → Greatest P c → Single All P (wide P c) (part P c) → TheBest P
+  single-best : (c : Candidate) → Greatest P c → Single All P (wide P c) (part P c) → TheBest All P
   single-best c top s =
       let l = least (a .proper) c top in
       record { line = l .line; w = wide P c; z = part P c; some = l .some; best = record { member = tt; reached = l .reached; least = l; single = s } }
 
   -- an input of the greatest gap: another of the same gap leaves one line, and where there is none, several reach it
-  one-fitted : (t : Top) → BestOf g 2673 t → (i : ℕ) → t .which ≡ One i → Greatest P (one i) → Fitted P
+  one-fitted : (t : Top) → BestOf g 2673 t → (i : ℕ) → t .which ≡ One i → Greatest P (one i) → Fitted All P
   one-fitted t b i e top = go (decLt j (g .m))
     where
       j : ℕ
@@ -74,7 +75,7 @@ module _ {g : Band} (a : Admitted g) where
       f : FirstNot (g .m) (apart P i) j
       f = first-not-is (g .m) (apart P i)
 
-      go : Dec (j < g .m) → Fitted P
+      go : Dec (j < g .m) → Fitted All P
       go (yes h) =
           one-line (single-best (one i) top (tied (a .proper) i top (one j) h (λ d. twin-other P i f h (sym (ap at d)))
           (subst (λ (n : ℤ). (num P (one i) *ℤ pos 1) ≤ℤ (n *ℤ pos 1)) (twin-same P i f h) (≤ℤ-refl _))))
@@ -83,22 +84,22 @@ module _ {g : Band} (a : Admitted g) where
           let n : FirstNot (g .m) (apart P i) (g .m) = subst (FirstNot (g .m) (apart P i)) d f in
           many (wide P (one i)) (part P (one i)) (part-some (a .proper) (one i) (top .fits)) (record { least = least (a .proper) (one i) top; several = several (a .proper) i top (alone a b i e n) })
 
-  fitted : Fitted P
+  fitted : Fitted All P
   fitted = go (some-best a .0) (some-best a .1)
     where
-      go : (t : Top) → BestOf g 2673 t → Fitted P
+      go : (t : Top) → BestOf g 2673 t → Fitted All P
       go t b = by (t .which) refl
         where
           greatest : (c : S.Candidate) → t .which ≡ c → Greatest P (shown c)
           greatest c e = subst (λ (c : S.Candidate). Greatest P (shown c)) e (found a b)
 
-          by : (c : S.Candidate) → t .which ≡ c → Fitted P
+          by : (c : S.Candidate) → t .which ≡ c → Fitted All P
           by (One i) e = one-fitted t b i e (greatest (One i) e)
           by (Up i j k) e = one-line (single-best (up i j k) (greatest (Up i j k) e) (up-single (a .proper) i j k (greatest (Up i j k) e)))
           by (Down i j k) e = one-line (single-best (down i j k) (greatest (Down i j k) e) (down-single (a .proper) i j k (greatest (Down i j k) e)))
 
   -- one value at each input
-  level-best : Level g → TheBest P
+  level-best : Level g → TheBest All P
   level-best l = let c = some-greatest a in single-best (c .0) (c .1) (all-single (a .proper) l (c .0) (c .1))
 
 -- ---- the points of a run
@@ -127,17 +128,17 @@ module _ {r : Run} (c : Checked r) where
   ready : (t : Through) → Cycles t r → Admitted (band t r)
   ready t n = admitted c t n (same t)
 
-  best-there : (t : Through) → TheBest (points (band t r)) → TheBest (through t r)
+  best-there : (t : Through) → TheBest All (points (band t r)) → TheBest All (through t r)
   best-there t b =
       let e = same t in
       record { line = b .line; w = b .w; z = b .z; some = b .some; best = record { member = b .best .member; reached = within-points e (b .best .reached); least = least-points e (b .best .least); single = single-points e (b .best .single) } }
 
-  pub some-fit : (t : Through) → Cycles t r → Fitted (through t r)
+  pub some-fit : (t : Through) → Cycles t r → Fitted All (through t r)
   some-fit t n = go (fitted (ready t n))
     where
-      go : Fitted (points (band t r)) → Fitted (through t r)
+      go : Fitted All (points (band t r)) → Fitted All (through t r)
       go (one-line b) = one-line (best-there t b)
       go (many w z h m) = many w z h (record { least = least-points (same t) (m .least); several = several-points (same t) (m .several) })
 
-  pub independent : TheBest (means r)
+  pub independent : TheBest All (means r)
   independent = best-there lines.Means (level-best (ready lines.Means tt) (level-means (band lines.Means r) r (same lines.Means)))

@@ -2,17 +2,18 @@
 use mathlib.Core.Path.{_≡_, refl, sym, ap, _∙_, subst}
 use mathlib.Core.Bool.{cond}
 use mathlib.Core.List.{List, _++_}
-use Prim.Native.Nat.{ℕ, _*_, _≤_}
+use Prim.Native.Nat.{ℕ, _*_, _<_, _≤_}
 use native.Mathlib.Omega.{arith}
 use lib.Dec.{ltb, eqb, eqb→eq}
 use lib.IntN.{ℤ, pos, natAbs, ℤ-discrete}
 use lib.ListN.{length, drop}
+use lib.Signed.{_<ℤ_}
 use Rattle.whole.specs.Flags.{cond-ind}
 use Rattle.exact.specs.Value.{nought}
 use Rattle.exact.specs.Rounding.{Nearest}
 use Rattle.exact.specs.declared.Fraction.{Fraction}
 use Rattle.limits.specs.Limits.{sizes}
-use Rattle.run.specs.Run.{zeros}
+use Rattle.run.specs.Run.{input, zeros}
 use Rattle.run.specs.Limits.{fails-at, fine, shape, verdict}
 use Rattle.run.specs.declared.Run.{Run}
 use Rattle.run.specs.declared.Verdict.{Verdict}
@@ -23,8 +24,10 @@ use Rattle.writer.specs.File.{file, written, buffer-after}
 use Rattle.writer.specs.declared.Written.{Written}
 use Rattle.runfile.specs.Because.{Because, cut-first, cut-later, unknown-first, unknown-later, sizes-out, place-out, number-out, second-time, missing, byte-after, not-rising, scattered, accepted}
 use Rattle.band.specs.Line.{Line}
-use Rattle.indices.specs.Due.{span, Stands}
+use Rattle.indices.specs.Due.{span, Stands, several, one-line, Due, no-run, below-zero, one-cycle, given}
+use Rattle.indices.specs.Once.{one-answer}
 use Rattle.indices.specs.declared.Answer as indices
+use Rattle.indices.specs.declared.Index.the-variants as index
 
 -- ---- a run's check: 3, 5, 9, 10, or none
 pub verdict-ind : (r : Run) (P : ℕ → Type 0) → P 0 → P 3 → P 5 → P 9 → P 10 → P (verdict r .number)
@@ -85,6 +88,18 @@ module _ {r : Run} {L : Line} {w z : ℕ} {a : indices.Answer} (s : Stands r L w
       go : Dec (L .a ≡ pos 0) → (a .index ≡ nought) × (a .thousandths ≡ 0)
       go (yes d) = let i = s .index .none (none d) in (i, zero-percent i (s .thousandths))
       go (no d) = let n = s .sloping d in absurd (omega arith)
+
+-- ---- 15, and a negative input
+module _ (r : Run) (e : verdict r .number ≡ 0) (a : indices.Answer) where
+  pub the-negative : Due index.Zero r a → a .number ≡ 15 → (i : ℕ) × (i < r .m) × (input r i <ℤ pos 0)
+  the-negative (no-run n _) number = absurd (n e)
+  the-negative (below-zero _ b _) number = (b .at, b .within, b .negative)
+  the-negative (one-cycle _ _ o _) number = absurd (o .0)
+  the-negative (given _ _ _ (several w z _ _ _ q)) number = let z : _≡_ {A = ℕ} 12 15 = sym (ap (λ (a : indices.Answer). a .number) q) ∙ number in absurd (omega arith)
+  the-negative (given _ _ _ (one-line L w z _ _ s)) number = absurd (stands-ind s (λ n. n ≡ 15 → ⊥) (λ z. omega arith) (λ z. omega arith) number)
+
+  pub fifteen : Due index.Zero r a → (i : ℕ) → i < r .m → input r i <ℤ pos 0 → a .number ≡ 15
+  fifteen due i h l = ap (λ (a : indices.Answer). a .number) (one-answer index.Zero r due (below-zero e (record { asked = tt; at = i; within = h; negative = l }) refl))
 
 -- ---- a buffer lent to the writer: what the check says, or 14
 module _ (r : Run) (buffer : List ℕ) where

@@ -11,7 +11,7 @@ use Rattle.band.specs.Line.{Line, Within, All, Least}
 use Rattle.band.specs.Same.{same-within}
 use Rattle.fit.specs.Scaled.{within-alike, least-alike}
 use Rattle.indices.specs.Through.{limit-points}
-use Rattle.indices.specs.Due.{Given, several, one-line, Due, no-run, one-cycle, given}
+use Rattle.indices.specs.Due.{Given, several, one-line, Due, no-run, below-zero, one-cycle, given}
 use Rattle.indices.specs.declared.Answer.{Answer}
 use Rattle.indices.specs.declared.Index.the-variants as index
 use Rattle.promises.specs.Exact.{exact-limit, Keeps, KeepsCloser}
@@ -36,8 +36,9 @@ told-given (one-line L w z h b s) = record {
 
 told : {r : Run} {a : Answer} → verdict r .number ≡ 0 → 2 ≤ r .n → Due index.Lhr r a → Told r a
 told e two (no-run h f) = absurd (h e)
-told e two (one-cycle v o f) = let one = o .1 in absurd (omega arith)
-told e two (given v o g) = told-given g
+told e two (below-zero v b f) = absurd (b .asked)
+told e two (one-cycle v n o f) = let one = o .1 in absurd (omega arith)
+told e two (given v n o g) = told-given g
 
 module _ (r : Run) (e : verdict r .number ≡ 0) (two : 2 ≤ r .n) (a : Answer) (due : Due index.Lhr r a) where
   pub lost : (L : Line) → Keeps r (exact-limit r) L (pos (r .n) *ℤ a .width .num -ℤ pos (a .width .den)) (a .width .den) → ⊥

@@ -1,4 +1,4 @@
--- Tests that compute, of numbers, of lines and of answers. `TestLaws`, `LineLaws` and `LimitLaws` prove what each of them shows.
+-- Tests that compute, of numbers, of lines and of answers. `TestLaws`, `LineLaws`, `PinLaws` and `LimitLaws` prove what each of them shows.
 use mathlib.Core.Bool.{Bool, true, false, cond, not, _&&_, _||_}
 use mathlib.Core.List.{List, [], _∷_}
 use Prim.Native.Nat.{ℕ, zero, suc, _+_, _*_, _-_, _%_}
@@ -13,6 +13,8 @@ use Rattle.groups.specs.Sums.{too-small}
 use Rattle.band.specs.Line.{Line, Points, off}
 use Rattle.band.specs.Candidate.{Candidate, one, up, down, num, wide, part}
 use Rattle.band.specs.Terminal.{terminal-part}
+use Rattle.pin.specs.Pair as pair
+use Rattle.pin.specs.Search.{is-ahead}
 use Rattle.indices.specs.Due.{span}
 use Rattle.indices.specs.declared.Answer.{Answer}
 
@@ -86,9 +88,12 @@ single P c L = triple c && all (greatest P c L)
 abbrev pub half : Points → Candidate → (w z : ℕ) → List Bool
 half P c w z = alike (wide P c) (part P c) w z
 
+abbrev pub unlike : (one two : Line) → Bool
+unlike A B = not (same (A .a *ℤ pos (B .q)) (B .a *ℤ pos (A .q)))
+
 -- two lines within half the candidate, of different slope
 abbrev pub many : Points → Candidate → (one two : Line) → List Bool
-many P c A B = all (greatest P c A) ∷ within P B (wide P c) (part P c) ∷ not (same (A .a *ℤ pos (B .q)) (B .a *ℤ pos (A .q))) ∷ []
+many P c A B = all (greatest P c A) ∷ within P B (wide P c) (part P c) ∷ unlike A B ∷ []
 
 abbrev pub terminal : Points → Line → (w z at : ℕ) → List Bool
 terminal P L w z at =
@@ -107,6 +112,16 @@ shifted P L w z i j =
     ∷ every (P .m) (between P L i j)
     ∷ all (alike (natAbs (top P L j -ℤ height P L i)) (2 * L .q * P .d) w z)
     ∷ []
+
+-- the line passes through the value v/d at the input x, and keeps every value within what the pair i, j keeps such lines off by
+abbrev pub pinned : Points → (x v : ℤ) → (i j : ℕ) → Line → List Bool
+pinned P x v i j L = is-ahead P x i ∷ is-ahead P x j ∷ same (off P L x v) (pos 0) ∷ within P L (pair.wide P x v i j) (pair.part P x i j) ∷ []
+
+-- the first input is x, and how far its value lies from v is what two lines through the point keep every value within, of different slope
+abbrev pub pinned-many : Points → (x v : ℤ) → (one two : Line) → List Bool
+pinned-many P x v A B =
+    let w = natAbs (pair.rise P v 0) in
+    same (P .x 0) x ∷ same (off P A x v) (pos 0) ∷ same (off P B x v) (pos 0) ∷ within P A w (P .d) ∷ within P B w (P .d) ∷ unlike A B ∷ []
 
 -- ---- limits
 abbrev pub smallest : Run → (s i k : ℕ) → Bool

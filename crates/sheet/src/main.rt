@@ -2,15 +2,15 @@
 use libc::STDIN_FILENO;
 use libc::STDOUT_FILENO;
 
-// No answer depends on more than the first 1,837 bytes of a file, and no sheet is longer than 684.
+// No answer depends on more than the first 1,837 bytes of a file, and no sheet is longer than 831.
 fn main() {
     let mut file = [0u8; 1837];
     let n = io::read_full(STDIN_FILENO, &mut file);
-    let mut out = [0u8; 684];
+    let mut out = [0u8; 831];
     if n <= 1837 {
         let q = sheet_text::sheet(&file[..n], &mut out);
         let len = q.len;
-        if len <= 684 {
+        if len <= 831 {
             io::write_all(STDOUT_FILENO, &out[..len]);
         }
     }

@@ -1,4 +1,4 @@
--- A text that grows at its end up to 684 bytes. Method.
+-- A text that grows at its end up to 831 bytes. Method.
 use mathlib.Core.Path.{_≡_}
 use mathlib.Core.List.{List, _++_}
 use Prim.Native.Nat.{ℕ}

@@ -33,7 +33,7 @@ grown-four t a b c d {u} e f g h = grown-two t a (b ++ (c ++ d)) e (grown-three 
 pub grown-five : (t a b c d k : List ℕ) {u v w x r : List ℕ} → u ≡ grown t a → v ≡ grown u b → w ≡ grown v c → x ≡ grown w d → r ≡ grown x k → r ≡ grown t (a ++ (b ++ (c ++ (d ++ k))))
 grown-five t a b c d k {u} e f g h i = grown-two t a (b ++ (c ++ (d ++ k))) e (grown-four u b c d k f g h i)
 
--- ---- a text of 684 bytes, of which the first ones are told
+-- ---- a text of 831 bytes, of which the first ones are told
 module _ (t : Text) (whole : length (t .bytes) ≡ longest) where
   pub text-length : t .len ≤ longest → length (text t) ≡ t .len
   text-length h = length-take-le (t .len) (t .bytes) (omega arith)

@@ -1,4 +1,4 @@
--- No sheet has more than 684 bytes: a decimal has at most 20, a fraction 42, a percent 24.
+-- No sheet has more than 831 bytes: a decimal has at most 20, a fraction 42, a percent 24.
 use mathlib.Core.List.{List, [], _∷_, _++_}
 use Prim.Native.Nat.{ℕ, zero, suc, _+_, _/_, _≤_}
 use native.Mathlib.Nat.{le-refl}
@@ -73,10 +73,12 @@ fits-lines m n A =
     (joined (line index.Terminal)
     (joined (line index.Shifted)
     (joined (line index.Independent)
+    (joined (line index.Zero)
+    (joined (line index.Front)
     (joined (line index.Hysteresis)
     (joined (line index.Repeatability)
     (joined (line index.Lh)
-    (joined (line index.Lhr) (last-most (A index.Lhr))))))))) .most
+    (joined (line index.Lhr) (last-most (A index.Lhr))))))))))) .most
   where
     line : (i : Index) → Most (index-line i (A i)) (length (name i) + 69)
     line i = index-most i (A i)

@@ -1,4 +1,4 @@
--- The sheet of a byte string given as a run file (the paper, "Figures to meet", the printed sheet). Definitions only.
+-- The sheet of a byte string given as a run file (the paper, "Figures to meet", the printed sheet; request C-11). Definitions only.
 use mathlib.Core.Path.{_≡_}
 use mathlib.Core.Bool.{cond}
 use mathlib.Core.List.{List, [], _∷_, _++_}
@@ -40,11 +40,13 @@ at-word = 32 ∷ 97 ∷ 116 ∷ 32 ∷ []
 abbrev pub line-word : List ℕ
 line-word = 108 ∷ 105 ∷ 110 ∷ 101 ∷ []
 
--- "terminal", "shifted", "independent", "hysteresis", "repeatability", "lh", "lhr"
+-- "terminal", "shifted", "independent", "zero", "front", "hysteresis", "repeatability", "lh", "lhr"
 abbrev pub name : Index → List ℕ
 name index.Terminal = 116 ∷ 101 ∷ 114 ∷ 109 ∷ 105 ∷ 110 ∷ 97 ∷ 108 ∷ []
 name index.Shifted = 115 ∷ 104 ∷ 105 ∷ 102 ∷ 116 ∷ 101 ∷ 100 ∷ []
 name index.Independent = 105 ∷ 110 ∷ 100 ∷ 101 ∷ 112 ∷ 101 ∷ 110 ∷ 100 ∷ 101 ∷ 110 ∷ 116 ∷ []
+name index.Zero = 122 ∷ 101 ∷ 114 ∷ 111 ∷ []
+name index.Front = 102 ∷ 114 ∷ 111 ∷ 110 ∷ 116 ∷ []
 name index.Hysteresis = 104 ∷ 121 ∷ 115 ∷ 116 ∷ 101 ∷ 114 ∷ 101 ∷ 115 ∷ 105 ∷ 115 ∷ []
 name index.Repeatability = 114 ∷ 101 ∷ 112 ∷ 101 ∷ 97 ∷ 116 ∷ 97 ∷ 98 ∷ 105 ∷ 108 ∷ 105 ∷ 116 ∷ 121 ∷ []
 name index.Lh = 108 ∷ 104 ∷ []
@@ -66,18 +68,20 @@ index-line i a = name i ++ told (a .number) (fraction (a .index) ++ (space ∷ p
 abbrev pub last-line : Answer → List ℕ
 last-line a = line-word ++ told (a .number) (fraction (a .slope) ++ (space ∷ fraction (a .offset)))
 
--- the nine lines of an accepted file
+-- the eleven lines of an accepted file
 abbrev pub lines : (m n : ℕ) → (Index → Answer) → List ℕ
 lines m n A =
     head-line m n
     ++ (index-line index.Terminal (A index.Terminal)
     ++ (index-line index.Shifted (A index.Shifted)
     ++ (index-line index.Independent (A index.Independent)
+    ++ (index-line index.Zero (A index.Zero)
+    ++ (index-line index.Front (A index.Front)
     ++ (index-line index.Hysteresis (A index.Hysteresis)
     ++ (index-line index.Repeatability (A index.Repeatability)
     ++ (index-line index.Lh (A index.Lh)
     ++ (index-line index.Lhr (A index.Lhr)
-    ++ last-line (A index.Lhr))))))))
+    ++ last-line (A index.Lhr))))))))))
 
 -- a file that the reader refuses: `refused`, the number, `at`, the place
 abbrev pub refused-line : (number place : ℕ) → List ℕ
@@ -95,4 +99,4 @@ pub data PrintDue (s before after : List ℕ) (q : Printed) : Type 0 where
 
 -- no sheet is longer (`Longest`)
 abbrev pub longest : ℕ
-longest = 684
+longest = 831

@@ -13,7 +13,7 @@ use Rattle.indices.specs.declared.Index.the-variants as index
 use Rattle.sheet_text.specs.Digits.{decimal}
 use Rattle.sheet_text.specs.Sheet.{space, line-feed, refused-word, told, head-line, index-line, last-line, lines, refused-line, SheetDue, refused, accepted, longest}
 use Rattle.sheet_text.specs.Grown.{text, grown, RunText}
-use Rattle.sheet_text.specs.GrownLaws.{grown-five}
+use Rattle.sheet_text.specs.GrownLaws.{grown-three, grown-five}
 use Rattle.sheet_text.specs.Longest.{fits-lines, fits-refused}
 use Rattle.sheet_text.specs.declared.text.Text.{Text}
 
@@ -24,36 +24,42 @@ told-figures number figures e = simp (eq-eqb number 0 e)
 pub told-refused : (number : ℕ) (figures : List ℕ) → (number ≡ 0 → ⊥) → told number figures ≡ space ∷ ((refused-word ++ decimal number) ++ (line-feed ∷ []))
 told-refused number figures n = simp (ne-eqb number 0 n)
 
--- ---- seven answers
-module _ (a b c d e f g : Answer) where
+-- ---- nine answers
+module _ (a b c d e f g h i : Answer) where
   abbrev pub answers : Index → Answer
   answers index.Terminal = a
   answers index.Shifted = b
   answers index.Independent = c
-  answers index.Hysteresis = d
-  answers index.Repeatability = e
-  answers index.Lh = f
-  answers index.Lhr = g
+  answers index.Zero = d
+  answers index.Front = e
+  answers index.Hysteresis = f
+  answers index.Repeatability = g
+  answers index.Lh = h
+  answers index.Lhr = i
 
-  pub each : (P : Index → Answer → Type 0) → P index.Terminal a → P index.Shifted b → P index.Independent c → P index.Hysteresis d → P index.Repeatability e → P index.Lh f → P index.Lhr g → (i : Index) → P i (answers i)
-  each P p q r s t u v index.Terminal = p
-  each P p q r s t u v index.Shifted = q
-  each P p q r s t u v index.Independent = r
-  each P p q r s t u v index.Hysteresis = s
-  each P p q r s t u v index.Repeatability = t
-  each P p q r s t u v index.Lh = u
-  each P p q r s t u v index.Lhr = v
+  pub each : (P : Index → Answer → Type 0) → P index.Terminal a → P index.Shifted b → P index.Independent c → P index.Zero d → P index.Front e → P index.Hysteresis f → P index.Repeatability g → P index.Lh h → P index.Lhr i → (k : Index) → P k (answers k)
+  each P p q r s t u v w x index.Terminal = p
+  each P p q r s t u v w x index.Shifted = q
+  each P p q r s t u v w x index.Independent = r
+  each P p q r s t u v w x index.Zero = s
+  each P p q r s t u v w x index.Front = t
+  each P p q r s t u v w x index.Hysteresis = u
+  each P p q r s t u v w x index.Repeatability = v
+  each P p q r s t u v w x index.Lh = w
+  each P p q r s t u v w x index.Lhr = x
 
--- nine lines that go behind an empty text one after the other
+-- eleven lines that go behind an empty text one after the other
 module _ (m n : ℕ) (A : Index → Answer) where
   abbrev line : Index → List ℕ
   line i = index-line i (A i)
 
-  pub lines-grown : {t t1 t2 t3 t4 t5 t6 t7 t8 t9 : List ℕ} → t ≡ [] → t1 ≡ grown t (head-line m n) → t2 ≡ grown t1 (line index.Terminal) → t3 ≡ grown t2 (line index.Shifted) → t4 ≡ grown t3 (line index.Independent) → t5 ≡ grown t4 (line index.Hysteresis) → t6 ≡ grown t5 (line index.Repeatability) → t7 ≡ grown t6 (line index.Lh) → t8 ≡ grown t7 (line index.Lhr) → t9 ≡ grown t8 (last-line (A index.Lhr)) → t9 ≡ lines m n A
-  lines-grown {t} {t4} z e1 e2 e3 e4 e5 e6 e7 e8 e9 =
-      let last = line index.Hysteresis ++ (line index.Repeatability ++ (line index.Lh ++ (line index.Lhr ++ last-line (A index.Lhr)))) in
-      grown-five t (head-line m n) (line index.Terminal) (line index.Shifted) (line index.Independent) last e1 e2 e3 e4
-      (grown-five t4 (line index.Hysteresis) (line index.Repeatability) (line index.Lh) (line index.Lhr) (last-line (A index.Lhr)) e5 e6 e7 e8 e9)
+  pub lines-grown : {t t1 t2 t3 t4 t5 t6 t7 t8 t9 t10 t11 : List ℕ} → t ≡ [] → t1 ≡ grown t (head-line m n) → t2 ≡ grown t1 (line index.Terminal) → t3 ≡ grown t2 (line index.Shifted) → t4 ≡ grown t3 (line index.Independent) → t5 ≡ grown t4 (line index.Zero) → t6 ≡ grown t5 (line index.Front) → t7 ≡ grown t6 (line index.Hysteresis) → t8 ≡ grown t7 (line index.Repeatability) → t9 ≡ grown t8 (line index.Lh) → t10 ≡ grown t9 (line index.Lhr) → t11 ≡ grown t10 (last-line (A index.Lhr)) → t11 ≡ lines m n A
+  lines-grown {t} {t4} {t8} z e1 e2 e3 e4 e5 e6 e7 e8 e9 e10 e11 =
+      let last = line index.Lh ++ (line index.Lhr ++ last-line (A index.Lhr)) in
+      let middle = line index.Zero ++ (line index.Front ++ (line index.Hysteresis ++ (line index.Repeatability ++ last))) in
+      grown-five t (head-line m n) (line index.Terminal) (line index.Shifted) (line index.Independent) middle e1 e2 e3 e4
+      (grown-five t4 (line index.Zero) (line index.Front) (line index.Hysteresis) (line index.Repeatability) last e5 e6 e7 e8
+      (grown-three t8 (line index.Lh) (line index.Lhr) (last-line (A index.Lhr)) e9 e10 e11))
       ∙ ap (λ (l : List ℕ). grown l (lines m n A)) z
       ∙ take-all longest (lines m n A) (fits-lines m n A)
 

@@ -32,6 +32,8 @@ fn with_name(t: Text, which: Index) -> Text
         Index::Terminal => with_bytes(t, b"terminal"),
         Index::Shifted => with_bytes(t, b"shifted"),
         Index::Independent => with_bytes(t, b"independent"),
+        Index::Zero => with_bytes(t, b"zero"),
+        Index::Front => with_bytes(t, b"front"),
         Index::Hysteresis => with_bytes(t, b"hysteresis"),
         Index::Repeatability => with_bytes(t, b"repeatability"),
         Index::Lh => with_bytes(t, b"lh"),
@@ -110,7 +112,7 @@ fn with_answer(t: Text, which: Index, r: Run) -> Text
     with_index(t, which, indices::index_of(which, r))
 }
 
-// The nine lines of a run.
+// The eleven lines of a run.
 fn run_text(r: Run) -> Text
     ensures { λ t. ⌜ RunText r t ⌝ }
 {
@@ -118,7 +120,9 @@ fn run_text(r: Run) -> Text
     let terminal = with_answer(head, Index::Terminal, r);
     let shifted = with_answer(terminal, Index::Shifted, r);
     let independent = with_answer(shifted, Index::Independent, r);
-    let hysteresis = with_answer(independent, Index::Hysteresis, r);
+    let zero = with_answer(independent, Index::Zero, r);
+    let front = with_answer(zero, Index::Front, r);
+    let hysteresis = with_answer(front, Index::Hysteresis, r);
     let repeatability = with_answer(hysteresis, Index::Repeatability, r);
     let lh = with_answer(repeatability, Index::Lh, r);
     let lhr = indices::index_of(Index::Lhr, r);

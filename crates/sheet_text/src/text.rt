@@ -1,4 +1,4 @@
-// Text that grows at its end. It holds at most 684 bytes; what does not fit is dropped, and no sheet needs more.
+// Text that grows at its end. It holds at most 831 bytes; what does not fit is dropped, and no sheet needs more.
 ghost use mathlib.Core.List.{_∷_, []};
 ghost use mathlib.Core.Path.{_≡_};
 ghost use lib.ListN.{length};
@@ -8,7 +8,7 @@ ghost use Rattle.sheet_text.specs.Grown.{text, grown};
 use exact::Fraction;
 
 pub struct Text {
-    pub bytes: [u8; 684],
+    pub bytes: [u8; 831],
     pub len: usize,
 }
 
@@ -16,7 +16,7 @@ pub fn empty() -> Text
     ensures { λ t. ⌜ text t ≡ [] ⌝ }
 {
     Text {
-        bytes: [0; 684],
+        bytes: [0; 831],
         len: 0,
     }
 }
@@ -25,14 +25,14 @@ pub fn size(t: Text) -> usize
     ensures { λ n. ⌜ n ≡ length (text t) ⌝ }
 {
     let len = t.len;
-    if 684 < len { 684 } else { len }
+    if 831 < len { 831 } else { len }
 }
 
 pub fn with_byte(t: Text, b: u8) -> Text
     ensures { λ r. ⌜ text r ≡ grown (text t) (b ∷ []) ⌝ }
 {
     let at = t.len;
-    if 684 <= at {
+    if 831 <= at {
         return t;
     }
     let mut next = t;

@@ -14,28 +14,32 @@ use Rattle.indices.proofs.is_scatter.Tie as tie
 
 -- the tags of each arm
 abbrev first : List ℕ
-first = 4 ∷ 6 ∷ []
+first = 6 ∷ 8 ∷ []
 
 abbrev second : List ℕ
-second = 0 ∷ 1 ∷ 2 ∷ 3 ∷ 5 ∷ []
+second = 0 ∷ 1 ∷ 2 ∷ 3 ∷ 4 ∷ 5 ∷ 7 ∷ []
 
 named : (w : Index) → OneOf first (tagOf the-type w) → true ≡ scatters w
 named index.Terminal h = absurd (miss first 0 tt h)
 named index.Shifted h = absurd (miss first 1 tt h)
 named index.Independent h = absurd (miss first 2 tt h)
-named index.Hysteresis h = absurd (miss first 3 tt h)
+named index.Zero h = absurd (miss first 3 tt h)
+named index.Front h = absurd (miss first 4 tt h)
+named index.Hysteresis h = absurd (miss first 5 tt h)
 named index.Repeatability h = refl
-named index.Lh h = absurd (miss first 5 tt h)
+named index.Lh h = absurd (miss first 7 tt h)
 named index.Lhr h = refl
 
 others : (w : Index) → OneOf second (tagOf the-type w) → false ≡ scatters w
 others index.Terminal h = refl
 others index.Shifted h = refl
 others index.Independent h = refl
+others index.Zero h = refl
+others index.Front h = refl
 others index.Hysteresis h = refl
-others index.Repeatability h = absurd (miss second 4 tt h)
+others index.Repeatability h = absurd (miss second 6 tt h)
 others index.Lh h = refl
-others index.Lhr h = absurd (miss second 6 tt h)
+others index.Lhr h = absurd (miss second 8 tt h)
 
 returns : tie.Need-returns
 returns c = named (c .before .args .which) (c .match .keys1)

@@ -29,7 +29,7 @@ array-share-prefix-out : tie.Need-array-share-prefix-out
 array-share-prefix-out c = search needs
 
 slice-aggregate-write-all : tie.Need-slice-aggregate-write-all
-slice-aggregate-write-all c = let w : length (c .before .before .before .sheet .last .1 .0) ≡ 684 = search needs in sym (length-take-le _ _ (omega (arith, c .before .if2 .taken)))
+slice-aggregate-write-all c = let w : length (c .before .before .before .sheet .last .1 .0) ≡ 831 = search needs in sym (length-take-le _ _ (omega (arith, c .before .if2 .taken)))
 
 write-all-requires : tie.Need-write-all-requires
 write-all-requires c κs = search needs

@@ -1,4 +1,4 @@
--- `sheet_text::text_of` meets its contract: a refused file has one line, any other nine.
+-- `sheet_text::text_of` meets its contract: a refused file has one line, any other eleven.
 use borrow.Author.Needs.{needs}
 use Rattle.sheet_text.specs.SheetLaws.{sheet-refused, sheet-accepted}
 use Rattle.sheet_text.proofs.text_of.Statement.{statement}

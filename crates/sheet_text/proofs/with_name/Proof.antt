@@ -76,6 +76,24 @@ slice-aggregate-with-bytes-7 c = search needs
 with-bytes-requires-7 : tie.Need-with-bytes-requires-7
 with-bytes-requires-7 c κs = search needs
 
+enum-told-8 : tie.Need-enum-told-8
+enum-told-8 c = search needs
+
+slice-aggregate-with-bytes-8 : tie.Need-slice-aggregate-with-bytes-8
+slice-aggregate-with-bytes-8 c = search needs
+
+with-bytes-requires-8 : tie.Need-with-bytes-requires-8
+with-bytes-requires-8 c κs = search needs
+
+enum-told-9 : tie.Need-enum-told-9
+enum-told-9 c = search needs
+
+slice-aggregate-with-bytes-9 : tie.Need-slice-aggregate-with-bytes-9
+slice-aggregate-with-bytes-9 c = search needs
+
+with-bytes-requires-9 : tie.Need-with-bytes-requires-9
+with-bytes-requires-9 c κs = search needs
+
 returns : tie.Need-returns
 returns c = let e = c .before .before in named (e .before .before .args .which) (text (e .before .before .args .t)) (e .enum-told .given .1) (c .with-bytes .ensures)
 
@@ -96,6 +114,12 @@ returns-6 c = let e = c .before .before in named (e .before .before .args .which
 
 returns-7 : tie.Need-returns-7
 returns-7 c = let e = c .before .before in named (e .before .before .args .which) (text (e .before .before .args .t)) (e .enum-told7 .given .1) (c .with-bytes7 .ensures)
+
+returns-8 : tie.Need-returns-8
+returns-8 c = let e = c .before .before in named (e .before .before .args .which) (text (e .before .before .args .t)) (e .enum-told8 .given .1) (c .with-bytes8 .ensures)
+
+returns-9 : tie.Need-returns-9
+returns-9 c = let e = c .before .before in named (e .before .before .args .which) (text (e .before .before .args .t)) (e .enum-told9 .given .1) (c .with-bytes9 .ensures)
 
 pub with-name-spec : {M : Type 1} → statement M
 with-name-spec =
@@ -122,10 +146,18 @@ with-name-spec =
     enum-told-7
     slice-aggregate-with-bytes-7
     with-bytes-requires-7
+    enum-told-8
+    slice-aggregate-with-bytes-8
+    with-bytes-requires-8
+    enum-told-9
+    slice-aggregate-with-bytes-9
+    with-bytes-requires-9
     returns
     returns-2
     returns-3
     returns-4
     returns-5
     returns-6
-    returns-7)
+    returns-7
+    returns-8
+    returns-9)

@@ -1,4 +1,4 @@
--- `sheet_text::text::size` meets its contract: no text holds more than 684 bytes.
+-- `sheet_text::text::size` meets its contract: no text holds more than 831 bytes.
 use mathlib.Core.Path.{_≡_, sym}
 use native.Mathlib.Omega.{arith}
 use borrow.Author.Needs.{needs}

@@ -1,12 +1,12 @@
--- `fit::is_drawn` meets its contract: an admitted band has no more than 11 inputs, which `is_level` asks.
+-- `band::is_drawn` meets its contract: an admitted band has no more than 11 inputs, which `is_level` asks.
 use mathlib.Core.Path.{sym, ap, _∙_}
 use mathlib.Core.Bool.{Bool, _&&_}
 use borrow.Author.Needs.{needs}
 use Rattle.whole.specs.Flags.{yes-T}
 use Rattle.band.specs.Admit.{level}
 use Rattle.band.specs.AdmitLaws.{admits-admitted}
-use Rattle.fit.proofs.is_drawn.Statement.{statement}
-use Rattle.fit.proofs.is_drawn.Tie as tie
+use Rattle.band.proofs.is_drawn.Statement.{statement}
+use Rattle.band.proofs.is_drawn.Tie as tie
 
 is-admitted-requires : tie.Need-is-admitted-requires
 is-admitted-requires c κs = search needs

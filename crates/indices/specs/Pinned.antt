@@ -1,0 +1,65 @@
+-- What `pin` answers for a run's points, told with its own width, is the answer that is due; and when 15 is.
+use mathlib.Core.Path.{sym, subst}
+use mathlib.Core.Logic.{⊎-elim}
+use Prim.Native.Nat.{_<_}
+use native.Mathlib.Omega.{arith}
+use lib.Dec.{T}
+use lib.IntN.{pos}
+use lib.Signed.{_<ℤ_, clashℤ}
+use Rattle.whole.specs.Sign.{NonNeg, le-or-gt}
+use Rattle.run.specs.Run.{input}
+use Rattle.run.specs.Checked.{Checked}
+use Rattle.run.specs.declared.Run.{Run}
+use Rattle.band.specs.Band.{points}
+use Rattle.band.specs.declared.Band.{Band}
+use Rattle.fit.specs.declared.Drawn.{Drawn}
+use Rattle.fit.specs.declared.Drawn.the-variants as drawn
+use Rattle.pin.specs.Answer.{NoNegative, ZeroDue, FrontDue}
+use Rattle.pin.specs.PairLaws.{beyond-first}
+use Rattle.indices.specs.Through.{means}
+use Rattle.indices.specs.Due.{span, from-zero, BelowZero, Given}
+use Rattle.indices.specs.Parts.{SamePoints, OwnWidth, OwnReady}
+use Rattle.indices.specs.Transfer.{same-points-sym, zero-points, front-points}
+use Rattle.indices.specs.Admitted.{proper-means, admitted, level-means}
+use Rattle.indices.specs.Standing.{best-points, many-points, best-family, many-family}
+use Rattle.indices.specs.Given.{line-given, several-given}
+use Rattle.indices.specs.declared.Answer.{Answer}
+use Rattle.indices.specs.declared.Index.{Index}
+use Rattle.indices.specs.declared.Index.the-variants as index
+use Rattle.indices.specs.declared.bands.Through.the-variants as lines
+
+-- ---- negative inputs
+-- the inputs rise: one is negative only where the first one is
+pub first-negative : {which : Index} {r : Run} → Checked r → BelowZero which r → input r 0 <ℤ pos 0
+first-negative {r = r} c b = ⊎-elim (λ h. clashℤ (b .negative) (beyond-first (proper-means c) h (b .at) (b .within))) (λ l. l) (le-or-gt (pos 0) (input r 0))
+
+pub below-first : {which : Index} {r : Run} → Checked r → T (from-zero which) → input r 0 <ℤ pos 0 → BelowZero which r
+below-first c t l = record { asked = t; at = 0; within = omega (arith, c .m-least); negative = l }
+
+pub not-negative : {r : Run} → (BelowZero index.Zero r → ⊥) → NoNegative (means r)
+not-negative {r} none i h = ⊎-elim (λ l. l) (λ l. absurd (none (record { asked = tt; at = i; within = h; negative = l }))) (le-or-gt (pos 0) (input r i))
+
+-- ---- the zero-based line
+band-not-negative : (g : Band) (r : Run) → (BelowZero index.Zero r → ⊥) → SamePoints (points g) (means r) → NoNegative (points g)
+band-not-negative g r none e i h = let k : i < r .m = omega arith in subst NonNeg (sym (e .x i k)) (not-negative none i k)
+
+pub zero-given : (g : Band) (d : Drawn) {r : Run} {a : Answer} → Checked r → (BelowZero index.Zero r → ⊥) → SamePoints (points g) (means r) → ZeroDue g d → OwnWidth d (span r) a → Given index.Zero r a
+zero-given g (drawn.Line f) c n e due own = line-given (due .3) (best-family (zero-points e) (zero-points (same-points-sym e)) (best-points e (due .3))) own
+zero-given g (drawn.Several h) c n e due own = several-given (due .3) (many-family (zero-points e) (zero-points (same-points-sym e)) (many-points e (due .3))) own
+zero-given g drawn.Improper {r} c n e due own = absurd (due (admitted c lines.Means tt e) (level-means g r e) (band-not-negative g r n e))
+
+pub own-ready-zero : (g : Band) (d : Drawn) → ZeroDue g d → OwnReady d
+own-ready-zero g (drawn.Line f) due = due .3 .told
+own-ready-zero g (drawn.Several h) due = tt
+own-ready-zero g drawn.Improper due = tt
+
+-- ---- the front terminal-based line
+pub front-given : (g : Band) (d : Drawn) {r : Run} {a : Answer} → Checked r → SamePoints (points g) (means r) → FrontDue g d → OwnWidth d (span r) a → Given index.Front r a
+front-given g (drawn.Line f) {r} c e due own = line-given (due .2) (best-family (front-points e (omega arith)) (front-points (same-points-sym e) (omega arith)) (best-points e (due .2))) own
+front-given g (drawn.Several h) c e due own = absurd due
+front-given g drawn.Improper {r} c e due own = absurd (due (admitted c lines.Means tt e) (level-means g r e))
+
+pub own-ready-front : (g : Band) (d : Drawn) → FrontDue g d → OwnReady d
+own-ready-front g (drawn.Line f) due = due .2 .told
+own-ready-front g (drawn.Several h) due = tt
+own-ready-front g drawn.Improper due = tt

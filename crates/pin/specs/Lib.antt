@@ -1,0 +1,10 @@
+pub mod Answer
+pub mod Pair
+pub mod PairLaws
+pub mod PairLine
+pub mod OwnLaws
+pub mod Exists
+pub mod Search
+pub mod SearchLaws
+pub mod Due
+pub mod Once
