@@ -81,7 +81,7 @@ def compare(run):
 
 
 def run_built(program, given):
-    done = subprocess.run([os.path.join(ROOT, 'tools', 'run'), program], input=given, stdout=subprocess.PIPE)
+    done = subprocess.run([os.path.join(ROOT, 'bench'), program], input=given, stdout=subprocess.PIPE)
     if done.returncode != 0:
         raise SheetProgramFailed('the program %s ended with status %d' % (program, done.returncode))
     return done.stdout

@@ -11,12 +11,14 @@ ROOT = os.path.dirname(HERE)
 sys.path.insert(0, HERE)
 
 import check_runs  # noqa: E402
+import compare_bench  # noqa: E402
 import compare_files  # noqa: E402
 import compare_fractions  # noqa: E402
 import compare_lines  # noqa: E402
 import compare_sheets  # noqa: E402
+import compare_texts  # noqa: E402
 
-COMPARISONS = [compare_fractions, compare_files, compare_lines, compare_sheets, check_runs]
+COMPARISONS = [compare_fractions, compare_files, compare_lines, compare_sheets, compare_texts, compare_bench, check_runs]
 
 
 def say(text):
@@ -66,9 +68,11 @@ def prove():
     return int(passed.group(1))
 
 
-def run(program, given):
-    """What a built program prints on these bytes."""
-    done = subprocess.run([os.path.join(ROOT, 'tools', 'run'), program], input=given, capture_output=True)
+def run(program, given, errors=False):
+    """What a built program prints on these bytes. With errors it is what it prints and what it says on standard error, whatever its status: a refusal may be told there."""
+    done = subprocess.run([os.path.join(ROOT, 'bench'), program], input=given, capture_output=True)
+    if errors:
+        return done.stdout, done.stderr
     if done.returncode != 0:
         stop('%s ended with status %d: %s' % (program, done.returncode, done.stderr.decode('utf-8', 'replace')))
     return done.stdout

@@ -20,10 +20,3 @@ pub mod Shift
 pub mod Band
 pub mod Admit
 pub mod AdmitLaws
-pub mod Search
-pub mod SearchSize
-pub mod SearchStep
-pub mod SearchLaws
-pub mod Twin
-pub mod TwinLaws
-pub mod Exists

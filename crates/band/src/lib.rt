@@ -8,9 +8,6 @@ ghost use Rattle.whole.specs.Every.{every};
 ghost use Rattle.whole.specs.Between.{between};
 ghost use Rattle.band.specs.Band.{points, no-input, no-sum, most-v};
 ghost use Rattle.band.specs.Admit.{rises-to, point-ok, admits, level};
-
-pub mod search;
-
 use units::Input;
 use units::Sum;
 

@@ -34,7 +34,7 @@ fn line() -> bool {
     let Next::Word(den) = trial::read_word() else {
         return false;
     };
-    print_line(trial::from_excess(num), den);
+    print_line(eight_bytes::from_excess(num), den);
     true
 }
 

@@ -19,15 +19,15 @@ use Rattle.band.specs.Least.{least}
 use Rattle.band.specs.Band.{points, most-x, Admitted}
 use Rattle.fit.specs.Answer.{TheLine, OnlyWidth}
 use Rattle.fit.specs.Parts.{FitParts, Chosen, PairParts, WideParts}
-use Rattle.band.specs.Search.{shown, BestOf}
-use Rattle.band.specs.SearchSize.{num-size, top-size}
-use Rattle.band.specs.SearchLaws.{found}
 use Rattle.fit.specs.Scaled.{Alike, unit-most, alike-written, least-alike, several-alike, the-line}
 use Rattle.band.specs.declared.Band.{Band}
+use Rattle.search.specs.Search.{shown, BestOf}
+use Rattle.search.specs.SearchSize.{num-size, top-size}
+use Rattle.search.specs.SearchLaws.{found}
+use Rattle.search.specs.declared.Candidate as S
+use Rattle.search.specs.declared.Top.{Top}
 use Rattle.fit.specs.declared.Fit.{Fit}
 use Rattle.fit.specs.declared.Wide.{Wide}
-use Rattle.band.specs.declared.search.Candidate as S
-use Rattle.band.specs.declared.search.Top.{Top}
 
 -- no two inputs are more than 60,000 apart
 abbrev pub Near : Points → Type 0

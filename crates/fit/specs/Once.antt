@@ -16,8 +16,8 @@ use Rattle.band.specs.Shift.{Range, moved, moved-parallel, moved-within, moved-
 use Rattle.band.specs.Band.{points, Level}
 use Rattle.fit.specs.Answer.{Told, line-of, TheLine, OnlyWidth, BestDue, TerminalDue, ShiftedDue}
 use Rattle.fit.specs.Scaled.{within-alike, several-alike}
-use Rattle.band.specs.Exists.{some-greatest}
 use Rattle.band.specs.declared.Band.{Band}
+use Rattle.search.specs.Exists.{some-greatest}
 use Rattle.fit.specs.declared.Fit.{Fit}
 use Rattle.fit.specs.declared.Wide.{Wide}
 use Rattle.fit.specs.declared.Drawn.{Drawn}

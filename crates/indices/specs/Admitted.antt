@@ -18,11 +18,11 @@ use Rattle.band.specs.Line.{Points, Proper}
 use Rattle.band.specs.Band.{points, most-x, most-v, most-d, Admitted, Level}
 use Rattle.band.specs.declared.Band.{Band}
 use Rattle.fit.specs.Greater.{smaller, smaller-left, greater-left, greater-size}
-use Rattle.indices.specs.Through.{means, two-valued}
-use Rattle.indices.specs.Parts.{through, Cycles, SamePoints}
+use Rattle.bands.specs.Through.{means, two-valued}
+use Rattle.bands.specs.Parts.{through, Cycles, SamePoints}
+use Rattle.bands.specs.declared.Through.{Through}
+use Rattle.bands.specs.declared.Through.the-variants as lines
 use Rattle.indices.specs.Transfer.{same-points-sym, proper-points}
-use Rattle.indices.specs.declared.bands.Through.{Through}
-use Rattle.indices.specs.declared.bands.Through.the-variants as lines
 
 -- the two values of LHR
 abbrev lower : Run → ℕ → ℤ

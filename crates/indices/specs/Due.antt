@@ -13,7 +13,7 @@ use Rattle.run.specs.Limits.{verdict}
 use Rattle.run.specs.declared.Run.{Run}
 use Rattle.groups.specs.Sums.{limit}
 use Rattle.band.specs.Line.{Line, Points, Within, Largest, All, Parallel, Zero, Front, Least, Single, Several, Terminal}
-use Rattle.indices.specs.Through.{means, strokes, limit-points, LargestOf, swing, scatter}
+use Rattle.bands.specs.Through.{means, strokes, limit-points, LargestOf, swing, scatter}
 use Rattle.indices.specs.declared.Answer.{Answer}
 use Rattle.indices.specs.declared.Index.{Index}
 use Rattle.indices.specs.declared.Index.the-variants as index

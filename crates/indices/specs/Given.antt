@@ -23,19 +23,20 @@ use Rattle.fit.specs.declared.Fit.{Fit}
 use Rattle.fit.specs.declared.Wide.{Wide}
 use Rattle.fit.specs.declared.Drawn.{Drawn}
 use Rattle.fit.specs.declared.Drawn.the-variants as drawn
-use Rattle.indices.specs.Through.{means, LargestOf}
+use Rattle.bands.specs.Through.{means, LargestOf}
+use Rattle.bands.specs.Parts.{through, Cycles, SamePoints, width-at}
+use Rattle.bands.specs.declared.Through.{Through}
+use Rattle.bands.specs.declared.Through.the-variants as lines
+use Rattle.bands.specs.declared.Width.{Width}
+use Rattle.bands.specs.declared.Width.the-variants as widths
 use Rattle.indices.specs.Due.{Best, Independent, Fits, SeveralFit, only-width, span, Given, several, one-line}
-use Rattle.indices.specs.Parts.{through, Cycles, SamePoints, width-at, best-index, wide-index, OwnWidth, OtherWidth, OwnReady, OtherReady}
+use Rattle.indices.specs.Parts.{best-index, wide-index, OwnWidth, OtherWidth, OwnReady, OtherReady}
 use Rattle.indices.specs.Transfer.{same-points-sym, largest-points, terminal-points}
 use Rattle.indices.specs.Admitted.{admitted, level-means}
 use Rattle.indices.specs.Standing.{own-stands, other-stands, best-points, many-points, independent-points, best-same}
 use Rattle.indices.specs.declared.Answer.{Answer}
 use Rattle.indices.specs.declared.Index.{Index}
 use Rattle.indices.specs.declared.Index.the-variants as index
-use Rattle.indices.specs.declared.bands.Through.{Through}
-use Rattle.indices.specs.declared.bands.Through.the-variants as lines
-use Rattle.indices.specs.declared.bands.Width.{Width}
-use Rattle.indices.specs.declared.bands.Width.the-variants as widths
 
 -- ---- the terminal line
 pub terminal-given : (g : Band) (d : Drawn) {r : Run} {a : Answer} → Checked r → SamePoints (points g) (means r) → TerminalDue g d → OwnWidth d (span r) a → Given index.Terminal r a

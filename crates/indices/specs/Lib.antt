@@ -1,4 +1,3 @@
-pub mod Through
 pub mod Due
 pub mod Parts
 pub mod Transfer
@@ -7,4 +6,3 @@ pub mod Standing
 pub mod Given
 pub mod Pinned
 pub mod Once
-pub mod BandLaws

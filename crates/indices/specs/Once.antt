@@ -22,7 +22,7 @@ use Rattle.band.specs.Largest.{largest-same}
 use Rattle.band.specs.Terminal.{terminal-line, terminal-some, terminal, terminal-same}
 use Rattle.fit.specs.Scaled.{within-alike, several-alike}
 use Rattle.fit.specs.Once.{made-once, same-largest}
-use Rattle.indices.specs.Through.{means, LargestOf}
+use Rattle.bands.specs.Through.{means, LargestOf}
 use Rattle.indices.specs.Due.{Best, Independent, Fits, Many, SeveralFit, only-width, span, Stands, Given, several, one-line, Due, no-run, below-zero, one-cycle, given}
 use Rattle.indices.specs.Standing.{none-right}
 use Rattle.indices.specs.Admitted.{proper-means}

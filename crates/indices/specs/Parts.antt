@@ -1,56 +1,23 @@
 -- What the functions of this crate make on the way to an answer. Method.
 use mathlib.Core.Path.{_≡_}
-use Prim.Native.Nat.{ℕ, _*_, _<_, _≤_}
+use Prim.Native.Nat.{ℕ, _*_, _≤_}
 use lib.IntN.{ℤ, pos, natAbs, _*ℤ_}
 use lib.Signed.{_≤ℤ_}
 use Rattle.exact.specs.Value.{Made}
 use Rattle.exact.specs.Rounding.{Nearest}
 use Rattle.exact.specs.declared.Fraction.{Fraction}
-use Rattle.run.specs.declared.Run.{Run}
-use Rattle.groups.specs.Sums.{limit}
-use Rattle.band.specs.Line.{Points}
 use Rattle.fit.specs.Answer.{Told}
 use Rattle.fit.specs.declared.Fit.{Fit}
 use Rattle.fit.specs.declared.Drawn.{Drawn}
 use Rattle.fit.specs.declared.Drawn.the-variants as drawn
-use Rattle.indices.specs.Through.{means, strokes, limit-points, swing, scatter}
+use Rattle.bands.specs.declared.Through.{Through}
+use Rattle.bands.specs.declared.Through.the-variants as lines
+use Rattle.bands.specs.declared.Width.{Width}
+use Rattle.bands.specs.declared.Width.the-variants as widths
 use Rattle.indices.specs.Due.{only-width}
 use Rattle.indices.specs.declared.Answer.{Answer}
 use Rattle.indices.specs.declared.Index.{Index}
 use Rattle.indices.specs.declared.Index.the-variants as index
-use Rattle.indices.specs.declared.bands.Through.{Through}
-use Rattle.indices.specs.declared.bands.Through.the-variants as lines
-use Rattle.indices.specs.declared.bands.Width.{Width}
-use Rattle.indices.specs.declared.bands.Width.the-variants as widths
-
--- the points that a band is made of
-abbrev pub through : Through → Run → Points
-through lines.Means r = means r
-through lines.Strokes r = strokes r
-through lines.Limits r = limit-points r (limit r)
-
--- a limit needs two cycles
-abbrev pub Cycles : Through → Run → Type 0
-Cycles lines.Means r = Unit {0}
-Cycles lines.Strokes r = Unit {0}
-Cycles lines.Limits r = 2 ≤ r .n
-
--- two sets of points have the same inputs and values
-pub record SamePoints (P R : Points) : Type 0 where
-  pub m : P .m ≡ R .m
-  pub d : P .d ≡ R .d
-  pub x : (i : ℕ) → i < R .m → P .x i ≡ R .x i
-  pub low : (i : ℕ) → i < R .m → P .low i ≡ R .low i
-  pub high : (i : ℕ) → i < R .m → P .high i ≡ R .high i
-
--- a width at a point that is no line's
-abbrev pub width-at : Width → Run → ℕ → ℕ
-width-at widths.Swing r = swing r
-width-at widths.Scatter r = scatter (limit r)
-
-abbrev pub Measured : Width → Run → Type 0
-Measured widths.Swing r = Unit {0}
-Measured widths.Scatter r = 2 ≤ r .n
 
 -- the index whose line goes through these points, and the one that has this width
 abbrev pub best-index : Through → Index

@@ -16,9 +16,11 @@ use Rattle.fit.specs.declared.Drawn.{Drawn}
 use Rattle.fit.specs.declared.Drawn.the-variants as drawn
 use Rattle.pin.specs.Answer.{NoNegative, ZeroDue, FrontDue}
 use Rattle.pin.specs.PairLaws.{beyond-first}
-use Rattle.indices.specs.Through.{means}
+use Rattle.bands.specs.Through.{means}
+use Rattle.bands.specs.Parts.{SamePoints}
+use Rattle.bands.specs.declared.Through.the-variants as lines
 use Rattle.indices.specs.Due.{span, from-zero, BelowZero, Given}
-use Rattle.indices.specs.Parts.{SamePoints, OwnWidth, OwnReady}
+use Rattle.indices.specs.Parts.{OwnWidth, OwnReady}
 use Rattle.indices.specs.Transfer.{same-points-sym, zero-points, front-points}
 use Rattle.indices.specs.Admitted.{proper-means, admitted, level-means}
 use Rattle.indices.specs.Standing.{best-points, many-points, best-family, many-family}
@@ -26,7 +28,6 @@ use Rattle.indices.specs.Given.{line-given, several-given}
 use Rattle.indices.specs.declared.Answer.{Answer}
 use Rattle.indices.specs.declared.Index.{Index}
 use Rattle.indices.specs.declared.Index.the-variants as index
-use Rattle.indices.specs.declared.bands.Through.the-variants as lines
 
 -- ---- negative inputs
 -- the inputs rise: one is negative only where the first one is

@@ -17,9 +17,10 @@ use Rattle.fit.specs.Answer.{Told, line-of, TheLine, OnlyWidth}
 use Rattle.fit.specs.Scaled.{least-family, single-family, several-family}
 use Rattle.fit.specs.declared.Fit.{Fit}
 use Rattle.fit.specs.declared.Wide.{Wide}
-use Rattle.indices.specs.Through.{means}
+use Rattle.bands.specs.Through.{means}
+use Rattle.bands.specs.Parts.{SamePoints}
 use Rattle.indices.specs.Due.{Best, Independent, Many, span, Stands}
-use Rattle.indices.specs.Parts.{SamePoints, LineParts}
+use Rattle.indices.specs.Parts.{LineParts}
 use Rattle.indices.specs.Transfer.{within-points, least-points, single-points, several-points}
 use Rattle.indices.specs.declared.Answer.{Answer}
 

@@ -3,7 +3,7 @@ use mathlib.Core.Path.{sym}
 use Prim.Native.Nat.{ℕ, _-_, _<_}
 use native.Mathlib.Omega.{arith}
 use Rattle.band.specs.Line.{Line, Points, Proper, Within, Largest, Least, Single, Several, Zero, Front, Terminal}
-use Rattle.indices.specs.Parts.{SamePoints}
+use Rattle.bands.specs.Parts.{SamePoints}
 
 pub same-points-sym : {P R : Points} → SamePoints P R → SamePoints R P
 same-points-sym {P} {R} e = record {

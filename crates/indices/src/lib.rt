@@ -7,11 +7,9 @@ ghost use Rattle.exact.specs.Rounding.{Nearest, Told};
 ghost use Rattle.exact.specs.Value.{nought};
 ghost use Rattle.run.specs.Run.{input};
 ghost use Rattle.run.specs.Checked.{Checked};
+ghost use Rattle.bands.specs.Parts.{Cycles, Measured};
 ghost use Rattle.indices.specs.Due.{refused, only-width, span, from-zero, scatters, BelowZero, OneCycle, Given, Due};
-ghost use Rattle.indices.specs.Parts.{Cycles, Measured, best-index, wide-index, LineParts, Tellable, OwnWidth, OwnReady, OtherWidth, OtherReady};
-
-mod bands;
-
+ghost use Rattle.indices.specs.Parts.{best-index, wide-index, LineParts, Tellable, OwnWidth, OwnReady, OtherWidth, OtherReady};
 use bands::Through;
 use bands::Width;
 use bands::band_of;

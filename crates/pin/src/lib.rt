@@ -14,12 +14,12 @@ use band::Band;
 use band::input_at;
 use band::is_drawn;
 use band::low_at;
-use band::search::gap;
-use band::search::span;
 use fit::Drawn;
 use fit::Fit;
 use fit::only;
 use fit::told;
+use search::gap;
+use search::span;
 use units::Input;
 use units::Sum;
 

@@ -15,7 +15,7 @@ use Rattle.run.specs.declared.Run.{Run}
 use Rattle.band.specs.Line.{Line}
 use Rattle.band.specs.Candidate.{Candidate}
 use Rattle.pin.specs.Pair.{rise, wide, part}
-use Rattle.indices.specs.Through.{means, strokes, limit-points, swing, scatter}
+use Rattle.bands.specs.Through.{means, strokes, limit-points, swing, scatter}
 use Rattle.indices.specs.Due.{from-zero, scatters}
 use Rattle.indices.specs.declared.Answer.{Answer}
 use Rattle.indices.specs.declared.Index.{Index}

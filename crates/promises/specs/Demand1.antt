@@ -10,6 +10,7 @@ use native.Mathlib.Decide.{decLt}
 use native.Mathlib.Omega.{arith}
 use lib.ListN.{length, drop}
 use Rattle.exact.specs.Value.{nought}
+use Rattle.plain.specs.declared.Printed.{Printed}
 use Rattle.run.specs.Run.{zeros}
 use Rattle.run.specs.Limits.{verdict}
 use Rattle.run.specs.declared.Run.{Run}
@@ -25,7 +26,6 @@ use Rattle.indices.specs.declared.Answer.{Answer}
 use Rattle.indices.specs.declared.Index.{Index}
 use Rattle.sheet_text.specs.Sheet.{SheetDue, PrintDue, fits, short}
 use Rattle.sheet_text.specs.Once.{one-sheet, one-print}
-use Rattle.sheet_text.specs.declared.Printed.{Printed}
 use Rattle.promises.specs.Exists.{some-answer}
 use Rattle.promises.specs.Sheets.{some-averages, some-sheet}
 use Rattle.promises.specs.Numbers.{verdict-ind, read, stands-ind, flat-index, write-ind, write-none}

@@ -31,7 +31,7 @@ use Rattle.averages.specs.Averages.{AveragesDue}
 use Rattle.averages.specs.declared.Averages.{Averages}
 use Rattle.band.specs.Line.{Line, All, Zero, Front, Least, Single}
 use Rattle.pin.specs.Exists.{front-single}
-use Rattle.indices.specs.Through.{means}
+use Rattle.bands.specs.Through.{means}
 use Rattle.indices.specs.Due.{Best, Fits, SeveralFit, span, Stands, Given, several, one-line, Due, no-run, below-zero, one-cycle, given}
 use Rattle.indices.specs.Admitted.{proper-means}
 use Rattle.indices.specs.declared.Answer.{Answer}

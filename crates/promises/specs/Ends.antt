@@ -13,7 +13,7 @@ use Rattle.band.specs.Largest.{largest-by}
 use Rattle.band.specs.Terminal.{terminal-line, terminal-some, terminal, terminal-same}
 use Rattle.band.specs.Shift.{Range, moved, moved-some, moved-parallel, moved-within, moved-least, moved-single, shift-wide, shift-part}
 use Rattle.fit.specs.Scaled.{least-family, single-family, parallel-same}
-use Rattle.indices.specs.Through.{means}
+use Rattle.bands.specs.Through.{means}
 use Rattle.indices.specs.Due.{Best, Fits}
 use Rattle.indices.specs.Admitted.{proper-means}
 use Rattle.indices.specs.declared.Index.{Index}

@@ -8,7 +8,7 @@ use Rattle.run.specs.Run.{input}
 use Rattle.run.specs.declared.Run.{Run}
 use Rattle.groups.specs.Sums.{up-sum, down-sum, bessel, factor}
 use Rattle.band.specs.Line.{Line, off}
-use Rattle.indices.specs.Through.{strokes}
+use Rattle.bands.specs.Through.{strokes}
 
 -- a limit from 0 up: the fractions t/q, q above zero, that it is at most and at least
 pub record Cut : Type 1 where

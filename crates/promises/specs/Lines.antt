@@ -16,26 +16,26 @@ use Rattle.run.specs.declared.Run.{Run}
 use Rattle.band.specs.Line.{Line, Points, All, Single}
 use Rattle.band.specs.Candidate.{Candidate, one, up, down, num, Greatest, wide, part, part-some}
 use Rattle.band.specs.Band.{points, no-input, no-sum, Admitted, Level}
-use Rattle.band.specs.Search.{shown, BestOf}
-use Rattle.band.specs.SearchLaws.{found}
-use Rattle.band.specs.Exists.{some-best, some-greatest}
-use Rattle.band.specs.Twin.{apart}
-use Rattle.band.specs.TwinLaws.{twin-other, twin-same, alone}
 use Rattle.band.specs.Triple.{up-single, down-single}
 use Rattle.band.specs.Middle.{several}
 use Rattle.band.specs.Least.{least, tied, all-single}
 use Rattle.band.specs.declared.Band.{Band}
-use Rattle.band.specs.declared.search.Candidate as S
-use Rattle.band.specs.declared.search.Candidate.the-variants.{One, Up, Down}
-use Rattle.band.specs.declared.search.Top.{Top}
-use Rattle.indices.specs.Through.{means}
+use Rattle.search.specs.Search.{shown, BestOf}
+use Rattle.search.specs.SearchLaws.{found}
+use Rattle.search.specs.Exists.{some-best, some-greatest}
+use Rattle.search.specs.Twin.{apart}
+use Rattle.search.specs.TwinLaws.{twin-other, twin-same, alone}
+use Rattle.search.specs.declared.Candidate as S
+use Rattle.search.specs.declared.Candidate.the-variants.{One, Up, Down}
+use Rattle.search.specs.declared.Top.{Top}
+use Rattle.bands.specs.Through.{means}
+use Rattle.bands.specs.Parts.{through, Cycles, SamePoints}
+use Rattle.bands.specs.BandLaws.{through-m}
+use Rattle.bands.specs.declared.Through.{Through}
+use Rattle.bands.specs.declared.Through.the-variants as lines
 use Rattle.indices.specs.Due.{Best, Many}
-use Rattle.indices.specs.Parts.{through, Cycles, SamePoints}
 use Rattle.indices.specs.Transfer.{within-points, least-points, single-points, several-points}
 use Rattle.indices.specs.Admitted.{admitted, level-means}
-use Rattle.indices.specs.BandLaws.{through-m}
-use Rattle.indices.specs.declared.bands.Through.{Through}
-use Rattle.indices.specs.declared.bands.Through.the-variants as lines
 
 -- of the lines of the family F
 pub record TheBest (F : Line → Type 0) (P : Points) : Type 0 where

@@ -15,7 +15,7 @@ use Rattle.pin.specs.PairLaws.{beyond-first, part-some, pair-passing, pair-sing
 use Rattle.pin.specs.PairLine.{pair-within, pair-least}
 use Rattle.pin.specs.OwnLaws.{own-least, own-several}
 use Rattle.pin.specs.Exists.{some-greatest, front-single}
-use Rattle.indices.specs.Through.{means}
+use Rattle.bands.specs.Through.{means}
 use Rattle.indices.specs.Admitted.{proper-means}
 use Rattle.promises.specs.Lines.{TheBest, Fitted, one-line, many}
 

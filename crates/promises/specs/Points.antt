@@ -17,7 +17,7 @@ use Rattle.run.specs.declared.Run.{Run}
 use Rattle.groups.specs.Sums.{up-sum, down-sum}
 use Rattle.band.specs.Line.{Line, Within, All, Least}
 use Rattle.band.specs.Seen.{offE}
-use Rattle.indices.specs.Through.{two-valued, limit-points}
+use Rattle.bands.specs.Through.{two-valued, limit-points}
 use Rattle.promises.specs.Exact.{Cut, above, Keeps, KeepsCloser}
 use Rattle.promises.specs.Cuts.{Rounds, closer, strictly}
 

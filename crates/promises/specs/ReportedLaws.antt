@@ -11,7 +11,7 @@ use Rattle.run.specs.declared.Run.{Run}
 use Rattle.band.specs.Line.{Line, Points, All, Passing, Zero, Front, Same}
 use Rattle.band.specs.Same.{through, same-passing}
 use Rattle.fit.specs.Scaled.{Alike}
-use Rattle.indices.specs.Through.{means}
+use Rattle.bands.specs.Through.{means}
 use Rattle.indices.specs.Due.{Best, Stands, several, one-line, Due, no-run, below-zero, one-cycle, given}
 use Rattle.indices.specs.Standing.{best-same}
 use Rattle.indices.specs.declared.Answer.{Answer}

@@ -10,7 +10,7 @@ use Rattle.groups.specs.Sums.{limit}
 use Rattle.band.specs.Line.{Line, Within, All, Least}
 use Rattle.band.specs.Same.{same-within}
 use Rattle.fit.specs.Scaled.{within-alike, least-alike}
-use Rattle.indices.specs.Through.{limit-points}
+use Rattle.bands.specs.Through.{limit-points}
 use Rattle.indices.specs.Due.{Given, several, one-line, Due, no-run, below-zero, one-cycle, given}
 use Rattle.indices.specs.declared.Answer.{Answer}
 use Rattle.indices.specs.declared.Index.the-variants as index

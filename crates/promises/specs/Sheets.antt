@@ -6,6 +6,7 @@ use native.Mathlib.Decide.{decLt, ℕ-discrete}
 use native.Mathlib.Omega.{arith}
 use Rattle.exact.specs.Value.{nought}
 use Rattle.exact.specs.declared.Fraction.{Fraction}
+use Rattle.plain.specs.Plain.{refused-line}
 use Rattle.run.specs.Places.{rising}
 use Rattle.run.specs.Limits.{verdict}
 use Rattle.run.specs.Table.{length-table, table-at}
@@ -16,7 +17,7 @@ use Rattle.averages.specs.Averages as averages
 use Rattle.averages.specs.declared.Averages.{Averages}
 use Rattle.averages.specs.declared.Mean.{Mean}
 use Rattle.averages.specs.declared.Mean.the-variants.{Up, Down, Both}
-use Rattle.sheet_text.specs.Sheet.{lines, refused-line, SheetDue, refused, accepted}
+use Rattle.sheet_text.specs.Sheet.{lines, SheetDue, refused, accepted}
 use Rattle.promises.specs.Some.{some-made}
 use Rattle.promises.specs.Exists.{some-answer}
 

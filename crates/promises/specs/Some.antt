@@ -13,7 +13,7 @@ use Rattle.exact.specs.Euclid.{gcd-within}
 use Rattle.exact.specs.Terms.{through, made-through, made-nought}
 use Rattle.exact.specs.declared.Fraction.{Fraction}
 use Rattle.band.specs.Highest.{highest}
-use Rattle.indices.specs.Through.{LargestOf}
+use Rattle.bands.specs.Through.{LargestOf}
 
 -- ---- fractions
 pub some-made : (n : ℤ) (d : ℕ) → (f : Fraction) × Made n d f

@@ -20,7 +20,7 @@ use Rattle.exact.specs.declared.Fraction.{Fraction}
 use Rattle.run.specs.declared.Run.{Run}
 use Rattle.band.specs.Line.{Line}
 use Rattle.fit.specs.Scaled.{Alike}
-use Rattle.indices.specs.Through.{LargestOf}
+use Rattle.bands.specs.Through.{LargestOf}
 use Rattle.indices.specs.Due.{only-width, Stands}
 use Rattle.indices.specs.declared.Answer.{Answer}
 use Rattle.promises.specs.Tests.{all, same, divisor, zero-one, made, nearest, alike, largest-of, stands, width-only}

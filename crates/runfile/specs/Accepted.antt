@@ -65,7 +65,7 @@ module _ (m n : ℕ) (rs : List Record) (sized : sizes m n ≡ true) (good : All
   limits-run : (p : Place) → within m n p ≡ true → in-limits (at-with p (count (record-of (run-of m n rs) p))) ≡ true
   limits-run p k = rw (← number-run p k) (number-good m n p rs good (there p k))
 
-  fine-run : shape (run-of m n rs) ≡ fine → verdict (run-of m n rs) ≡ fine
+  pub fine-run : shape (run-of m n rs) ≡ fine → verdict (run-of m n rs) ≡ fine
   fine-run shaped =
       fine-by (run-of m n rs)
       (record {
@@ -76,12 +76,12 @@ module _ (m n : ℕ) (rs : List Record) (sized : sizes m n ≡ true) (good : All
       })
 
   -- one record at each place of the run: its records, in some order
-  rearranged : List·Permᴰ rs (travel (run-of m n rs))
+  pub rearranged : List·Permᴰ rs (travel (run-of m n rs))
   rearranged =
       matched (run-of m n rs) (places m n) rs (times-once m n) distinct (all-placed m n rs good)
       (λ p k. let w = sym (among-places m n p) ∙ k in (there p w, number-run p w))
 
-  trimmed-run : trimmed (run-of m n rs) ≡ run-of m n rs
+  pub trimmed-run : trimmed (run-of m n rs) ≡ run-of m n rs
   trimmed-run = run-same m n (travel (run-of m n rs)) rs (λ p. sym (number-perm p rearranged distinct))
 
 -- ---- what an answer of 0 says

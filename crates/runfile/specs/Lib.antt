@@ -10,6 +10,7 @@ pub mod PlaceLaws
 pub mod Rearrange
 pub mod RecordLaws
 pub mod Sentences
+pub mod ZeroGiven
 pub mod Travel
 pub mod Trimmed
 pub mod VerdictLaws

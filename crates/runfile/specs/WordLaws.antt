@@ -7,7 +7,7 @@ use native.Mathlib.Omega.{arith}
 use borrow.Author.Tests.{lt-ltb, le-ltb}
 use lib.Dec.{ltb}
 use lib.IntN.{ℤ, pos, negsuc, natAbs}
-use Rattle.record.specs.Word.{word, word-at, signed, bits, word-bytes}
+use Rattle.four_bytes.specs.Word.{word, word-at, signed, bits, word-bytes}
 
 pub signed-bits : (z : ℤ) → natAbs z < 2147483648 → signed (bits z) ≡ z
 signed-bits (pos n) h = simp (lt-ltb n 2147483648 h)

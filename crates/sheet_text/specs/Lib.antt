@@ -1,10 +1,6 @@
-pub mod Digits
 pub mod Sheet
 pub mod Grown
-pub mod GrownLaws
-pub mod DigitLaws
 pub mod Longest
 pub mod SheetLaws
-pub mod CopyLaws
 pub mod Vectors
 pub mod Once

@@ -1,56 +1,18 @@
--- No sheet has more than 831 bytes: a decimal has at most 20, a fraction 42, a percent 24.
+-- No sheet has more than 831 bytes: its eleven lines. That the refusal line fits a text is in `plain`, `Most`.
 use mathlib.Core.List.{List, [], _∷_, _++_}
-use Prim.Native.Nat.{ℕ, zero, suc, _+_, _/_, _≤_}
-use native.Mathlib.Nat.{le-refl}
+use Prim.Native.Nat.{ℕ, suc, _+_, _≤_}
 use native.Mathlib.Omega.{arith}
-use lib.Dec.{ltb, eqb, lit≤}
-use lib.IntN.{ℤ, pos, negsuc}
-use lib.ListN.{length, length-append}
+use lib.Dec.{eqb, lit≤}
+use lib.ListN.{length}
 use Rattle.whole.specs.Flags.{cond-ind}
-use Rattle.exact.specs.declared.Fraction.{Fraction}
+use Rattle.plain.specs.Digits.{decimal}
+use Rattle.plain.specs.Plain.{space, line-feed, refused-word, longest}
+use Rattle.plain.specs.Most.{Most, word, after, joined, decimal-most, fraction-most, percent-most}
 use Rattle.indices.specs.declared.Answer.{Answer}
 use Rattle.indices.specs.declared.Index.{Index}
 use Rattle.indices.specs.declared.Index.the-variants as index
-use Rattle.sheet_text.specs.Digits.{digit, digits, decimal, signed, fraction, percent}
-use Rattle.sheet_text.specs.Sheet.{space, line-feed, refused-word, points-word, cycles-word, at-word, line-word, name, head-line, told, index-line, last-line, lines, refused-line, longest}
+use Rattle.sheet_text.specs.Sheet.{points-word, cycles-word, line-word, name, head-line, told, index-line, last-line, lines}
 
--- l has at most n bytes
-record Most (l : List ℕ) (n : ℕ) : Type 0 where
-  most : length l ≤ n
-
--- ---- parts
-word : (w : List ℕ) → Most w (length w)
-word w = record { most = le-refl (length w) }
-
-after : (x : ℕ) {l : List ℕ} {n : ℕ} → Most l n → Most (x ∷ l) (suc n)
-after x h = record { most = omega (arith, h .most) }
-
-joined : {a b : List ℕ} {m n : ℕ} → Most a m → Most b n → Most (a ++ b) (m + n)
-joined {a} {b} h i = record { most = omega (arith, length-append a b, h .most, i .most) }
-
--- ---- numbers
-digits-most : (k v : ℕ) → Most (digits k v) k
-unfolding digits
-digits-most zero v = word []
-digits-most (suc k) v =
-    cond-ind (ltb v 10) (digit v ∷ []) (digits k (v / 10) ++ (digit v ∷ [])) (λ (l : List ℕ). Most l (suc k))
-    (λ _. record { most = omega arith })
-    (λ _. record { most = omega (arith, joined (digits-most k (v / 10)) (word (digit v ∷ [])) .most) })
-
-decimal-most : (v : ℕ) → Most (decimal v) 20
-decimal-most v = digits-most 20 v
-
-signed-most : (z : ℤ) → Most (signed z) 21
-signed-most (pos n) = record { most = omega (arith, decimal-most n .most) }
-signed-most (negsuc n) = after 45 (decimal-most (suc n))
-
-fraction-most : (f : Fraction) → Most (fraction f) 42
-fraction-most f = joined (signed-most (f .num)) (after 47 (decimal-most (f .den)))
-
-percent-most : (t : ℕ) → Most (percent t) 24
-percent-most t = joined (decimal-most (t / 1000)) (word (46 ∷ digit (t / 100) ∷ digit (t / 10) ∷ digit t ∷ []))
-
--- ---- lines
 head-most : (m n : ℕ) → Most (head-line m n) 56
 head-most m n = joined (word points-word) (joined (decimal-most m) (joined (word cycles-word) (joined (decimal-most n) (word (line-feed ∷ [])))))
 
@@ -82,7 +44,3 @@ fits-lines m n A =
   where
     line : (i : Index) → Most (index-line i (A i)) (length (name i) + 69)
     line i = index-most i (A i)
-
-pub fits-refused : (number place : ℕ) → length (refused-line number place) ≤ longest
-fits-refused number place =
-    omega (arith, joined (word refused-word) (joined (decimal-most number) (joined (word at-word) (joined (decimal-most place) (word (line-feed ∷ []))))) .most)

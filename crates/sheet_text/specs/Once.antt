@@ -4,14 +4,15 @@ use mathlib.Core.List.{List, _++_}
 use Prim.Native.Nat.{ℕ, _<_, _≤_}
 use native.Mathlib.Omega.{arith}
 use lib.ListN.{length, take, drop}
+use Rattle.plain.specs.Plain.{refused-line}
+use Rattle.plain.specs.declared.Printed.{Printed}
 use Rattle.reader.specs.Meaning.{meaning}
 use Rattle.reader.specs.declared.Answer.{Answer}
 use Rattle.runfile.specs.FirstPart.{first-part}
 use Rattle.indices.specs.Due.{Due}
 use Rattle.indices.specs.Once.{one-answer}
 use Rattle.indices.specs.declared.Index.{Index}
-use Rattle.sheet_text.specs.Sheet.{lines, refused-line, SheetDue, refused, accepted, PrintDue, fits, short}
-use Rattle.sheet_text.specs.declared.Printed.{Printed}
+use Rattle.sheet_text.specs.Sheet.{lines, SheetDue, refused, accepted, PrintDue, fits, short}
 
 pub one-sheet : {s t u : List ℕ} → SheetDue s t → SheetDue s u → t ≡ u
 one-sheet (refused _ e) (refused _ f) = e ∙ sym f

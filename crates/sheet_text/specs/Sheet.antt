@@ -5,20 +5,14 @@ use mathlib.Core.List.{List, [], _∷_, _++_}
 use Prim.Native.Nat.{ℕ, _<_, _≤_}
 use lib.Dec.{eqb}
 use lib.ListN.{length, drop}
+use Rattle.plain.specs.Digits.{decimal, fraction, percent}
+use Rattle.plain.specs.Plain.{space, line-feed, refused-word, refused-line}
+use Rattle.plain.specs.declared.Printed.{Printed}
 use Rattle.reader.specs.Meaning.{meaning}
 use Rattle.indices.specs.Due.{Due}
 use Rattle.indices.specs.declared.Answer.{Answer}
 use Rattle.indices.specs.declared.Index.{Index}
 use Rattle.indices.specs.declared.Index.the-variants as index
-use Rattle.sheet_text.specs.Digits.{decimal, fraction, percent}
-use Rattle.sheet_text.specs.declared.Printed.{Printed}
-
--- a space, and a line feed
-abbrev pub space : ℕ
-space = 32
-
-abbrev pub line-feed : ℕ
-line-feed = 10
 
 -- "points "
 abbrev pub points-word : List ℕ
@@ -27,14 +21,6 @@ points-word = 112 ∷ 111 ∷ 105 ∷ 110 ∷ 116 ∷ 115 ∷ 32 ∷ []
 -- " cycles "
 abbrev pub cycles-word : List ℕ
 cycles-word = 32 ∷ 99 ∷ 121 ∷ 99 ∷ 108 ∷ 101 ∷ 115 ∷ 32 ∷ []
-
--- "refused "
-abbrev pub refused-word : List ℕ
-refused-word = 114 ∷ 101 ∷ 102 ∷ 117 ∷ 115 ∷ 101 ∷ 100 ∷ 32 ∷ []
-
--- " at "
-abbrev pub at-word : List ℕ
-at-word = 32 ∷ 97 ∷ 116 ∷ 32 ∷ []
 
 -- "line"
 abbrev pub line-word : List ℕ
@@ -83,10 +69,6 @@ lines m n A =
     ++ (index-line index.Lhr (A index.Lhr)
     ++ last-line (A index.Lhr))))))))))
 
--- a file that the reader refuses: `refused`, the number, `at`, the place
-abbrev pub refused-line : (number place : ℕ) → List ℕ
-refused-line number place = refused-word ++ (decimal number ++ (at-word ++ (decimal place ++ (line-feed ∷ []))))
-
 -- t is the sheet of the byte string s
 pub data SheetDue (s t : List ℕ) : Type 0 where
   refused : (meaning s .number ≡ 0 → ⊥) → t ≡ refused-line (meaning s .number) (meaning s .place) → SheetDue s t
@@ -96,7 +78,3 @@ pub data SheetDue (s t : List ℕ) : Type 0 where
 pub data PrintDue (s before after : List ℕ) (q : Printed) : Type 0 where
   fits : (t : List ℕ) → SheetDue s t → length t ≤ length before → q ≡ record { number = 0; len = length t } → after ≡ t ++ drop (length t) before → PrintDue s before after q
   short : (t : List ℕ) → SheetDue s t → length before < length t → q ≡ record { number = 14; len = 0 } → after ≡ before → PrintDue s before after q
-
--- no sheet is longer (`Longest`)
-abbrev pub longest : ℕ
-longest = 831

@@ -1,21 +1,28 @@
 -- Laws of a sheet: its lines are the parts that a text grows by, and it fits a text.
-use mathlib.Core.Path.{_≡_, sym, ap, subst, _∙_}
+use mathlib.Core.Path.{_≡_, refl, sym, ap, subst, _∙_}
+use mathlib.Core.Bool.{Bool, true, false, cond}
 use mathlib.Core.List.{List, [], _∷_, _++_}
 use Prim.Native.Nat.{ℕ}
-use borrow.Author.Tests.{eq-eqb, ne-eqb}
+use borrow.Author.Tests.{eq-eqb, ne-eqb, ltb-true, ltb-false}
+use lib.Dec.{ltb}
+use lib.ListN.{length, drop}
 use lib.Seq.{take-all}
+use Rattle.plain.specs.Digits.{decimal}
+use Rattle.plain.specs.Plain.{space, line-feed, refused-word, refused-line, longest, printed, buffer-after}
+use Rattle.plain.specs.Grown.{text, grown}
+use Rattle.plain.specs.GrownLaws.{grown-three, grown-five}
+use Rattle.plain.specs.Most.{fits-refused}
+use Rattle.plain.specs.declared.Text.{Text}
+use Rattle.plain.specs.declared.Printed.{Printed}
 use Rattle.run.specs.declared.Run.{Run}
 use Rattle.reader.specs.Meaning.{meaning}
 use Rattle.reader.specs.declared.Answer as R
 use Rattle.indices.specs.declared.Answer.{Answer}
 use Rattle.indices.specs.declared.Index.{Index}
 use Rattle.indices.specs.declared.Index.the-variants as index
-use Rattle.sheet_text.specs.Digits.{decimal}
-use Rattle.sheet_text.specs.Sheet.{space, line-feed, refused-word, told, head-line, index-line, last-line, lines, refused-line, SheetDue, refused, accepted, longest}
-use Rattle.sheet_text.specs.Grown.{text, grown, RunText}
-use Rattle.sheet_text.specs.GrownLaws.{grown-three, grown-five}
-use Rattle.sheet_text.specs.Longest.{fits-lines, fits-refused}
-use Rattle.sheet_text.specs.declared.text.Text.{Text}
+use Rattle.sheet_text.specs.Sheet.{told, head-line, index-line, last-line, lines, SheetDue, refused, accepted, PrintDue, fits, short}
+use Rattle.sheet_text.specs.Grown.{RunText}
+use Rattle.sheet_text.specs.Longest.{fits-lines}
 
 -- ---- what follows a name
 pub told-figures : (number : ℕ) (figures : List ℕ) → number ≡ 0 → told number figures ≡ space ∷ (figures ++ (line-feed ∷ []))
@@ -74,3 +81,11 @@ module _ {s : List ℕ} {a : R.Answer} (e : a ≡ meaning s) where
   sheet-accepted t z f =
       let g = subst (λ (r : Run). RunText r t) (ap (λ (b : R.Answer). b .run) e) f in
       accepted (sym (ap (λ (b : R.Answer). b .number) e) ∙ z) (g .answers) (g .due) (g .is)
+
+-- ---- a sheet that was printed
+pub print-due : {s t before after : List ℕ} {q : Printed} → SheetDue s t → q ≡ printed t before → after ≡ buffer-after t before → PrintDue s before after q
+print-due {s} {t} {before} {after} {q} d = go (ltb (length before) (length t)) refl
+  where
+    go : (b : Bool) → ltb (length before) (length t) ≡ b → q ≡ cond b (record { number = 14; len = 0 }) (record { number = 0; len = length t }) → after ≡ cond b before (t ++ drop (length t) before) → PrintDue s before after q
+    go true e = short t d (ltb-true (length before) (length t) e)
+    go false e = fits t d (ltb-false (length before) (length t) e)

@@ -5,11 +5,12 @@ use Prim.Native.Nat.{ℕ}
 use lib.IntN.{ℤ, pos, negsuc}
 use Rattle.exact.specs.Value.{nought}
 use Rattle.exact.specs.declared.Fraction.{Fraction}
+use Rattle.plain.specs.Digits.{digits, decimal, fraction, percent}
+use Rattle.plain.specs.Plain.{refused-line}
 use Rattle.indices.specs.declared.Answer.{Answer}
 use Rattle.indices.specs.declared.Index.{Index}
 use Rattle.indices.specs.declared.Index.the-variants as index
-use Rattle.sheet_text.specs.Digits.{digits, decimal, fraction, percent}
-use Rattle.sheet_text.specs.Sheet.{index-line, last-line, lines, refused-line}
+use Rattle.sheet_text.specs.Sheet.{index-line, last-line, lines}
 
 over : ℤ → ℕ → Fraction
 over n d = record { num = n; den = d }

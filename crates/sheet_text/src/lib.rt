@@ -1,29 +1,22 @@
 // The sheet of a run file, as bytes.
-ghost use mathlib.Core.List.{_∷_, [], _++_};
+ghost use mathlib.Core.List.{_∷_, _++_};
 ghost use mathlib.Core.Path.{_≡_};
-ghost use Prim.Native.Nat.{_≤_};
-ghost use lib.ListN.{length, drop};
-ghost use Rattle.sheet_text.specs.Digits.{decimal, fraction, percent};
-ghost use Rattle.sheet_text.specs.Sheet.{space, refused-word, name, head-line, index-line, last-line, refused-line, SheetDue, PrintDue};
-ghost use Rattle.sheet_text.specs.Grown.{text, grown, AnswerLine, RunText};
-
-mod text;
-
+ghost use Rattle.plain.specs.Digits.{fraction, percent};
+ghost use Rattle.plain.specs.Plain.{space};
+ghost use Rattle.plain.specs.Grown.{text, grown};
+ghost use Rattle.sheet_text.specs.Sheet.{name, head-line, index-line, last-line, SheetDue, PrintDue};
+ghost use Rattle.sheet_text.specs.Grown.{AnswerLine, RunText};
 use indices::Answer;
 use indices::Index;
+use plain::Printed;
+use plain::Text;
+use plain::with_byte;
+use plain::with_bytes;
+use plain::with_decimal;
+use plain::with_fraction;
+use plain::with_number;
+use plain::with_percent;
 use run::Run;
-use text::Text;
-use text::with_byte;
-use text::with_bytes;
-use text::with_decimal;
-use text::with_fraction;
-use text::with_percent;
-
-// 0 and the length of the sheet; or 14 and 0, where the lent buffer is too short.
-pub struct Printed {
-    pub number: u8,
-    pub len: usize,
-}
 
 fn with_name(t: Text, which: Index) -> Text
     ensures { λ r. ⌜ text r ≡ grown (text t) (name which) ⌝ }
@@ -39,13 +32,6 @@ fn with_name(t: Text, which: Index) -> Text
         Index::Lh => with_bytes(t, b"lh"),
         Index::Lhr => with_bytes(t, b"lhr"),
     }
-}
-
-// `refused` and the number.
-fn with_number(t: Text, number: u8) -> Text
-    ensures { λ r. ⌜ text r ≡ grown (text t) (refused-word ++ decimal number) ⌝ }
-{
-    with_decimal(with_bytes(t, b"refused "), number as u64)
 }
 
 // The index and the percent.
@@ -97,14 +83,6 @@ fn with_head(t: Text, m: usize, n: usize) -> Text
     with_byte(cycles, b'\n')
 }
 
-fn refused_text(number: u8, place: usize) -> Text
-    ensures { λ t. ⌜ text t ≡ grown [] (refused-line number place) ⌝ }
-{
-    let numbered = with_number(text::empty(), number);
-    let placed = with_decimal(with_bytes(numbered, b" at "), place as u64);
-    with_byte(placed, b'\n')
-}
-
 // The line of an index of a run.
 fn with_answer(t: Text, which: Index, r: Run) -> Text
     ensures { λ u. ⌜ AnswerLine t which r u ⌝ }
@@ -116,7 +94,7 @@ fn with_answer(t: Text, which: Index, r: Run) -> Text
 fn run_text(r: Run) -> Text
     ensures { λ t. ⌜ RunText r t ⌝ }
 {
-    let head = with_head(text::empty(), r.m, r.n);
+    let head = with_head(plain::empty(), r.m, r.n);
     let terminal = with_answer(head, Index::Terminal, r);
     let shifted = with_answer(terminal, Index::Shifted, r);
     let independent = with_answer(shifted, Index::Independent, r);
@@ -135,34 +113,15 @@ fn text_of(file: &[u8]) -> Text
     let a = reader::read(file);
     let number = a.number;
     if number != 0 {
-        return refused_text(number, a.place);
+        return plain::refused_text(number, a.place);
     }
     let r = a.run;
     run_text(r)
-}
-
-// Puts a text at the front of a buffer that has room for it.
-fn put(t: Text, out: &mut [u8])
-    requires { ⌜ length (text t) ≤ length (now out) ⌝ }
-    ensures { λ _. ⌜ now (out .exit) ≡ text t ++ drop (length (text t)) (now (out .entry)) ⌝ }
-{
-    let len = text::size(t);
-    let mut i = 0;
-    while i < len {
-        out[i] = t.bytes[i];
-        i += 1;
-    }
 }
 
 // The sheet of any byte string, at the front of a lent buffer.
 pub fn sheet(file: &[u8], out: &mut [u8]) -> Printed
     ensures { λ q. ⌜ PrintDue (now (file .entry)) (now (out .entry)) (now (out .exit)) q ⌝ }
 {
-    let t = text_of(file);
-    let len = text::size(t);
-    if out.len() < len {
-        return Printed { number: 14, len: 0 };
-    }
-    put(t, out);
-    Printed { number: 0, len }
+    plain::print_text(text_of(file), out)
 }

@@ -1,41 +1,11 @@
 // What the programs that the comparison runs have in common: numbers in, numbers out.
 ghost use mathlib.Core.Path.{_≡_};
-ghost use Prim.Native.Nat.{_<_, _^_};
-ghost use lib.IntN.{pos, _-ℤ_};
 ghost use lib.ListN.{length};
-ghost use Rattle.trial.specs.Word.{four, little};
 use exact::Fraction;
 use libc::STDIN_FILENO;
 use libc::STDOUT_FILENO;
 use units::Input;
 use units::Reading;
-
-fn quad(a: u8, b: u8, c: u8, d: u8) -> u64
-    ensures value { λ r. ⌜ r ≡ four a b c d ⌝ }
-    ensures small { λ r. ⌜ r < 2 ^ 32 ⌝ }
-{
-    (a as u64) + 256 * ((b as u64) + 256 * ((c as u64) + 256 * (d as u64)))
-}
-
-// Eight bytes as a number, low byte first.
-pub fn word(b: [u8; 8]) -> u64
-    ensures { λ r. ⌜ r ≡ little b ⌝ }
-{
-    let low = quad(b[0], b[1], b[2], b[3]);
-    let high = quad(b[4], b[5], b[6], b[7]);
-    low + 4294967296 * high
-}
-
-// The number that v is more than 2 to the 63rd.
-pub fn from_excess(v: u64) -> i64
-    ensures { λ r. ⌜ r ≡ pos v -ℤ pos (2 ^ 63) ⌝ }
-{
-    if 9223372036854775808 <= v {
-        (v - 9223372036854775808) as i64
-    } else {
-        -1 - ((9223372036854775807 - v) as i64)
-    }
-}
 
 // What the next eight bytes of standard input hold.
 pub enum Next {
@@ -48,7 +18,7 @@ pub fn read_word() -> Next {
     if io::read_full(STDIN_FILENO, &mut b) < 8 {
         return Next::End;
     }
-    Next::Word(word(b))
+    Next::Word(eight_bytes::word(b))
 }
 
 pub fn print_signed(z: i64) {
@@ -77,7 +47,7 @@ pub fn next_or_zero() -> u64 {
 }
 
 pub fn next_signed() -> i64 {
-    from_excess(next_or_zero())
+    eight_bytes::from_excess(next_or_zero())
 }
 
 pub fn next_inputs() -> [Input; 11] {

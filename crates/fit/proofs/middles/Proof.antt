@@ -11,10 +11,10 @@ use Rattle.whole.specs.Sign.{le-sign}
 use Rattle.units.specs.declared.Input.{Input}
 use Rattle.units.specs.declared.Sum.{Sum}
 use Rattle.band.specs.Band.{points}
+use Rattle.search.specs.SearchSize.{input-size, low-size, high-size}
 use Rattle.fit.specs.Ends.{most-a}
 use Rattle.fit.specs.PartsLaws.{parts-is}
 use Rattle.fit.specs.ChordLaws.{inputs-rise}
-use Rattle.band.specs.SearchSize.{input-size, low-size, high-size}
 use Rattle.fit.proofs.middles.Statement.{statement}
 use Rattle.fit.proofs.middles.Tie as tie
 

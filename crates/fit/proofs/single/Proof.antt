@@ -7,11 +7,11 @@ use Rattle.whole.specs.Every.{FirstNot}
 use Rattle.whole.specs.Machine.{stored}
 use Rattle.band.specs.Candidate.{one, num, Greatest}
 use Rattle.band.specs.Band.{points}
+use Rattle.search.specs.Twin.{apart}
+use Rattle.search.specs.SearchSize.{num-size}
+use Rattle.search.specs.TwinLaws.{twin-other, twin-same, alone}
 use Rattle.fit.specs.Parts.{WideParts}
 use Rattle.fit.specs.Ends.{most-e}
-use Rattle.band.specs.Twin.{apart}
-use Rattle.band.specs.SearchSize.{num-size}
-use Rattle.band.specs.TwinLaws.{twin-other, twin-same, alone}
 use Rattle.fit.specs.BestLaws.{near, found-is, num-is, pair-best, greatest-twin, several-best}
 use Rattle.fit.proofs.single.Statement.{statement}
 use Rattle.fit.proofs.single.Tie as tie

@@ -9,7 +9,7 @@ use Rattle.units.specs.declared.Input.{Input}
 use Rattle.units.specs.declared.Sum.{Sum}
 use Rattle.band.specs.Band.{points, Admitted, Level}
 use Rattle.band.specs.AdmitLaws.{drawn-yes, drawn-no}
-use Rattle.band.specs.SearchSize.{input-size, low-size}
+use Rattle.search.specs.SearchSize.{input-size, low-size}
 use Rattle.pin.specs.Pair.{Beyond}
 use Rattle.pin.specs.Search.{PinDue}
 use Rattle.pin.specs.PairLaws.{beyond-first}

@@ -5,7 +5,7 @@ use borrow.Author.Needs.{needs, sfits-of}
 use lib.IntN.{ℤ, natAbs}
 use mir.Facts.{toZ-ofZ}
 use Rattle.whole.specs.Machine.{stored}
-use Rattle.band.specs.SearchSize.{low-size}
+use Rattle.search.specs.SearchSize.{low-size}
 use Rattle.pin.proofs.rise_of.Statement.{statement}
 use Rattle.pin.proofs.rise_of.Tie as tie
 

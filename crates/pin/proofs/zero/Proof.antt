@@ -12,7 +12,7 @@ use Rattle.whole.specs.Machine.{Bounds, if-lt, if-ge}
 use Rattle.units.specs.declared.Input.{Input}
 use Rattle.band.specs.Band.{points, most-x, Admitted, Level}
 use Rattle.band.specs.AdmitLaws.{drawn-yes, drawn-no}
-use Rattle.band.specs.SearchSize.{input-size}
+use Rattle.search.specs.SearchSize.{input-size}
 use Rattle.pin.specs.Answer.{NoNegative}
 use Rattle.pin.specs.PairLaws.{beyond-first}
 use Rattle.pin.specs.Due.{zero-due}

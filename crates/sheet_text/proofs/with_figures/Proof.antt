@@ -1,10 +1,10 @@
 -- `sheet_text::with_figures` meets its contract: two parts with a space between them.
 use mathlib.Core.List.{_∷_, []}
 use borrow.Author.Needs.{needs}
-use Rattle.sheet_text.specs.Digits.{fraction, percent}
-use Rattle.sheet_text.specs.Sheet.{space}
-use Rattle.sheet_text.specs.Grown.{text}
-use Rattle.sheet_text.specs.GrownLaws.{grown-three}
+use Rattle.plain.specs.Digits.{fraction, percent}
+use Rattle.plain.specs.Plain.{space}
+use Rattle.plain.specs.Grown.{text}
+use Rattle.plain.specs.GrownLaws.{grown-three}
 use Rattle.sheet_text.proofs.with_figures.Statement.{statement}
 use Rattle.sheet_text.proofs.with_figures.Tie as tie
 

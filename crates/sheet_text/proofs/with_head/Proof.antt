@@ -1,10 +1,11 @@
 -- `sheet_text::with_head` meets its contract: five parts, one behind the other.
 use mathlib.Core.List.{_∷_, []}
 use borrow.Author.Needs.{needs}
-use Rattle.sheet_text.specs.Digits.{decimal}
-use Rattle.sheet_text.specs.Sheet.{line-feed, points-word, cycles-word}
-use Rattle.sheet_text.specs.Grown.{text}
-use Rattle.sheet_text.specs.GrownLaws.{grown-five}
+use Rattle.plain.specs.Digits.{decimal}
+use Rattle.plain.specs.Plain.{line-feed}
+use Rattle.plain.specs.Grown.{text}
+use Rattle.plain.specs.GrownLaws.{grown-five}
+use Rattle.sheet_text.specs.Sheet.{points-word, cycles-word}
 use Rattle.sheet_text.proofs.with_head.Statement.{statement}
 use Rattle.sheet_text.proofs.with_head.Tie as tie
 

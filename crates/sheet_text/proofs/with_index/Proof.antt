@@ -3,10 +3,11 @@ use mathlib.Core.Path.{sym, ap, _∙_}
 use mathlib.Core.List.{List, _∷_, [], _++_}
 use Prim.Native.Nat.{ℕ}
 use borrow.Author.Needs.{needs}
-use Rattle.sheet_text.specs.Digits.{decimal, fraction, percent}
-use Rattle.sheet_text.specs.Sheet.{space, line-feed, refused-word, name}
-use Rattle.sheet_text.specs.Grown.{text, grown}
-use Rattle.sheet_text.specs.GrownLaws.{grown-four}
+use Rattle.plain.specs.Digits.{decimal, fraction, percent}
+use Rattle.plain.specs.Plain.{space, line-feed, refused-word}
+use Rattle.plain.specs.Grown.{text, grown}
+use Rattle.plain.specs.GrownLaws.{grown-four}
+use Rattle.sheet_text.specs.Sheet.{name}
 use Rattle.sheet_text.specs.SheetLaws.{told-figures, told-refused}
 use Rattle.sheet_text.proofs.with_index.Statement.{statement}
 use Rattle.sheet_text.proofs.with_index.Tie as tie

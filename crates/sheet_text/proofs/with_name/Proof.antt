@@ -3,9 +3,9 @@ use mathlib.Core.Path.{_≡_, sym, ap, _∙_}
 use mathlib.Core.List.{List}
 use Prim.Native.Nat.{ℕ}
 use borrow.Author.Needs.{needs}
+use Rattle.plain.specs.Grown.{text, grown}
 use Rattle.indices.specs.declared.Index.{Index}
 use Rattle.sheet_text.specs.Sheet.{name}
-use Rattle.sheet_text.specs.Grown.{text, grown}
 use Rattle.sheet_text.proofs.with_name.Statement.{statement}
 use Rattle.sheet_text.proofs.with_name.Tie as tie
 

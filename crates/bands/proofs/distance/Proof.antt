@@ -1,0 +1,45 @@
+-- `bands::distance` meets its contract: the differences of two sums of bounded size fit, and the one that is taken is not negative.
+use mathlib.Core.Path.{_≡_, sym, ap, _∙_}
+use mathlib.Core.List.{List, _∷_, []}
+use Prim.Native.Nat.{ℕ}
+use lib.IntN.{ℤ, pos, natAbs, _-ℤ_}
+use lib.Signed.{_<ℤ_}
+use Rattle.whole.specs.Poly.{var, neg, _⊖_}
+use Rattle.whole.specs.Ring.{ring}
+use Rattle.whole.specs.Sign.{weaken, le-sign, nat-nonneg}
+use Rattle.whole.specs.Size.{size-neg}
+use Rattle.whole.specs.Machine.{Bounds, safe, ends, if-lt, if-ge}
+use Rattle.bands.proofs.distance.Statement.{statement}
+use Rattle.bands.proofs.distance.Tie as tie
+
+abbrev ρ : tie.Start → List ℤ
+ρ c = c .args .a .count ∷ c .args .b .count ∷ []
+
+abbrev β : List ℕ
+β = 20000000 ∷ 20000000 ∷ []
+
+bounds : (c : tie.Start) → Bounds (ρ c) β
+bounds c = (c .pre .0, (c .pre .1, tt))
+
+-- the difference taken from the larger number is the size of the other one
+turned : (a b : ℤ) → a <ℤ b → b -ℤ a ≡ pos (natAbs (a -ℤ b))
+turned a b h = sym (nat-nonneg (le-sign (weaken h))) ∙ ap (λ (z : ℤ). pos (natAbs z)) (ring (a ∷ b ∷ []) (var 1 ⊖ var 0) (neg (var 0 ⊖ var 1)) tt) ∙ ap pos (size-neg (a -ℤ b))
+
+sub-t7 : tie.Need-sub-t7
+sub-t7 c = let s = c .before .before .before in safe (ρ s) β (bounds s) (var 1 ⊖ var 0) tt
+
+sub-t8 : tie.Need-sub-t8
+sub-t8 c = let s = c .before .before .before in safe (ρ s) β (bounds s) (var 0 ⊖ var 1) tt
+
+returns : tie.Need-returns
+returns c =
+    let s = c .before .before .before in
+    ends (ρ s) β (bounds s) (var 1 ⊖ var 0) tt ∙ turned (s .args .a .count) (s .args .b .count) (if-lt (ρ s) β (bounds s) (var 0) (var 1) tt tt (c .if1 .taken))
+
+returns-2 : tie.Need-returns-2
+returns-2 c =
+    let s = c .before .before .before in
+    ends (ρ s) β (bounds s) (var 0 ⊖ var 1) tt ∙ sym (nat-nonneg (le-sign (if-ge (ρ s) β (bounds s) (var 0) (var 1) tt tt (c .if1 .left))))
+
+pub distance-spec : {M : Type 1} → statement M
+distance-spec = tie.close (tie.spec sub-t7 sub-t8 returns returns-2)

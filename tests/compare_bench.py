@@ -1,0 +1,89 @@
+"""Holds the script `bench` to docs/bench.1: what it prints, what it says on standard error, its exit status, and what is in the folder afterwards."""
+import os
+import subprocess
+import tempfile
+
+from second import text
+
+ROOT = os.path.dirname(os.path.dirname(os.path.abspath(__file__)))
+# what the gate says that these answers agreed with
+AGREED_WITH = 'the manual page'
+with open(os.path.join(ROOT, 'runs', 'sample.run'), 'rb') as file:
+    RUN = file.read()
+with open(os.path.join(ROOT, 'runs', 'sample.sheet'), 'rb') as file:
+    SHEET = file.read()
+LISTING = text.listing(RUN)
+REFUSED = text.refusal(42, 1)
+BEFORE = {'good.txt': LISTING, 'bad.txt': b'up\n', 'my run.run': RUN, 'old.run': b'old', '-dash.run': RUN}
+
+# Each case: what is tried, the words after `bench`, standard input, the status, what is printed, what is said, and the files that are new or another afterwards.
+CASES = [
+    ('a sheet', ['sheet', 'my run.run'], b'', 0, SHEET, b'', {}),
+    ('a sheet of standard input', ['sheet'], RUN, 0, SHEET, b'', {}),
+    ('a sheet of a refused file', ['sheet', 'old.run'], b'', 0, b'refused 2 at 0\n', b'', {}),
+    ('a listing', ['listing', 'my run.run'], b'', 0, LISTING, b'', {}),
+    ('a name that begins with a dash', ['listing', '-dash.run'], b'', 0, LISTING, b'', {}),
+    ('a listing of a refused file', ['listing', 'good.txt'], b'', 0, b'refused 2 at 0\n', b'', {}),
+    ('a run file', ['typed', 'good.txt', 'new.run'], b'', 0, b'', b'', {'new.run': RUN}),
+    ('a run file over an old one', ['typed', 'good.txt', 'old.run'], b'', 0, b'', b'', {'old.run': RUN}),
+    ('a run file whose name begins with a dash', ['typed', 'good.txt', '-new.run'], b'', 0, b'', b'', {'-new.run': RUN}),
+    ('a run file that is printed', ['typed', 'good.txt'], b'', 0, RUN, b'', {}),
+    ('a run file of standard input', ['typed'], LISTING, 0, RUN, b'', {}),
+    ('a refused text', ['typed', 'bad.txt', 'new.run'], b'', 1, b'', REFUSED, {}),
+    ('a refused text and an old run file', ['typed', 'bad.txt', 'old.run'], b'', 1, b'', REFUSED, {}),
+    ('a refused text without a run file', ['typed', 'bad.txt'], b'', 1, b'', REFUSED, {}),
+    ('a refused text of standard input', ['typed'], b'up\n', 1, b'', REFUSED, {}),
+    ('a missing file', ['sheet', 'none.run'], b'', 1, b'', b'bench: there is no file none.run\n', {}),
+    ('a missing text', ['typed', 'none.txt', 'old.run'], b'', 1, b'', b'bench: there is no file none.txt\n', {}),
+    ('a folder', ['listing', '.'], b'', 1, b'', b'bench: . is a folder, not a file\n', {}),
+    ('a folder for the run file', ['typed', 'good.txt', '.'], b'', 1, b'', b'bench: . is a folder, not a file\n', {}),
+    ('a run file in a folder that is not there', ['typed', 'good.txt', 'none/new.run'], b'', 1, b'', b'bench: the file none/new.run may not be written\n', {}),
+    ('the same file twice', ['typed', 'good.txt', './good.txt'], b'', 2, b'', b'bench: the text and the run file are the same file\n', {}),
+    ('an empty name', ['sheet', ''], b'', 2, b'', b'bench: a file name is empty\n', {}),
+    ('a name too many', ['sheet', 'good.txt', 'bad.txt'], b'', 2, b'', b'bench: sheet takes 1 file names at most; bench --help tells the commands\n', {}),
+    ('no such program', ['sheets', 'good.txt'], b'', 2, b'', b'bench: there is no program sheets; bench --help names them\n', {}),
+    ('a crate that is no program', ['run', 'my run.run'], b'', 2, b'', b'bench: there is no program run; bench --help names them\n', {}),
+]
+
+
+def called(words, given, folder):
+    return subprocess.run([os.path.join(ROOT, 'bench')] + words, input=given, capture_output=True, cwd=folder)
+
+
+def contents(folder):
+    out = {}
+    for name in os.listdir(folder):
+        with open(os.path.join(folder, name), 'rb') as file:
+            out[name] = file.read()
+    return out
+
+
+def case_faults(what, words, given, status, printed, said, changed):
+    """What differs in one case, which has a folder of its own and another for files that do not stay."""
+    with tempfile.TemporaryDirectory() as folder, tempfile.TemporaryDirectory() as aside:
+        for name, data in BEFORE.items():
+            with open(os.path.join(folder, name), 'wb') as file:
+                file.write(data)
+        os.environ['TMPDIR'] = aside
+        done = called(words, given, folder)
+        del os.environ['TMPDIR']
+        got = (done.returncode, done.stdout, done.stderr, contents(folder), os.listdir(aside))
+        due = (status, printed, said, {**BEFORE, **changed}, [])
+    return ['bench, %s: %r, due %r' % (what, one, other) for one, other in zip(got, due) if one != other][:1]
+
+
+def help_faults():
+    """Help is printed wherever it is asked for, in lines of forty cells; without a command it is said, with status 2."""
+    asked, late, none = called(['--help'], b'', ROOT), called(['sheet', '--help'], b'', ROOT), called([], b'', ROOT)
+    faults = []
+    if (asked.returncode, late.returncode, none.returncode) != (0, 0, 2) or not asked.stdout == late.stdout == none.stderr or asked.stderr or none.stdout:
+        faults.append('bench --help, bench sheet --help and bench alone do not say the same with status 0, 0 and 2')
+    if any(len(line) > 40 for line in asked.stdout.splitlines()) or b'bench typed TEXT RUN' not in asked.stdout:
+        faults.append('bench --help has a line of more than forty cells, or names not every command')
+    return faults
+
+
+def compare(run):
+    del run  # the script itself is called here, with file names
+    wrong = [fault for case in CASES for fault in case_faults(*case)] + help_faults()
+    return len(CASES) + 3, wrong, []

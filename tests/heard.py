@@ -1,0 +1,110 @@
+"""`make heard`: speaks and brailles for real what the programs print, with espeak-ng and liblouis (Debian's packages espeak-ng and liblouis-bin). It is no part of the test command, which needs neither.
+Each line of every sheet and listing of the folder runs, of a listing with the longest lines there are, and of every refusal is
+- spoken: the sounds of the line are those of the same line with its signs written as words, so that no sign is lost;
+- brailled, uncontracted (UEB): translated back it is the same line, and it has at most forty cells where the figures allow, which is everywhere but in a sheet's lines of long fractions."""
+import itertools
+import os
+import re
+import subprocess
+import sys
+
+HERE = os.path.dirname(os.path.abspath(__file__))
+ROOT = os.path.dirname(HERE)
+sys.path.insert(0, HERE)
+
+from second import text  # noqa: E402
+from second.sheet import NAMES  # noqa: E402
+from worked_runs import names  # noqa: E402
+
+CELLS = 40
+TABLES = 'unicode.dis,en-ueb-g1.ctb'
+
+
+def tool(command, given=''):
+    try:
+        return subprocess.run(command, input=given, capture_output=True, text=True, check=True, errors='replace').stdout
+    except FileNotFoundError:
+        sys.exit('heard: %s is not installed; Debian has it in espeak-ng, and lou_translate in liblouis-bin' % command[0])
+
+
+def sounds(lines):
+    """The sounds of each line, without stress and pauses, which differ between a sign and its word."""
+    return [re.sub(r"[\s,'_:|%=]", '', tool(['espeak-ng', '-q', '-x', '--', line])) for line in lines]
+
+
+def in_words(line):
+    """A line with its signs written as words, in every way in which they may be said."""
+    fixed = re.sub(r'(\d)/(\d)', r'\1 slash \2', line)
+    fixed = re.sub(r'(\d)\.(\d+)', lambda found: found.group(1) + ' point ' + ' '.join(found.group(2)), fixed)
+    parts = re.split(r'(?<!\S)-(?=\d)', fixed)
+    for said in itertools.product(('minus ', 'dash '), repeat=len(parts) - 1):
+        yield ''.join(a + b for a, b in itertools.zip_longest(parts, said, fillvalue=''))
+
+
+def spoken_faults(lines):
+    faults = ['%r has a sign of which nobody said how it sounds' % line for line in lines if any(re.search(r'[^A-Za-z0-9 ]', words) for words in in_words(line))]
+    for line, heard in zip(lines, sounds(lines)):
+        if heard not in sounds(list(in_words(line))):
+            faults.append('%r is spoken as %s' % (line, heard))
+    return faults
+
+
+def brailled(lines):
+    """The cells of each line, and the faults: a line that does not come back as it was."""
+    cells = tool(['lou_translate', '--forward', TABLES], '\n'.join(lines) + '\n').split('\n')[:len(lines)]
+    back = tool(['lou_translate', '--backward', TABLES], '\n'.join(cells) + '\n').split('\n')[:len(lines)]
+    return cells, ['%r comes back from braille as %r' % pair for pair in zip(lines, back) if pair[0] != pair[1]]
+
+
+def printed(program, given):
+    done = subprocess.run([os.path.join(ROOT, 'bench'), program], input=given, capture_output=True)
+    if done.returncode:
+        sys.exit('heard: %s ended with status %d' % (program, done.returncode))
+    return done.stdout.decode('ascii')
+
+
+def longest_text():
+    """A text with the longest lines that a run can have."""
+    points = [b'point %d input %d' % (i, i - 30000) for i in range(11)]
+    readings = [b'%s point %d cycle %d reads -1000000' % (s, i, c) for c in range(10) for s in (b'up', b'down') for i in range(11)]
+    return b'\n'.join([b'points 11 cycles 10'] + points + readings) + b'\n'
+
+
+def sources():
+    """What is spoken and brailled: a name, the lines, and whether forty cells are always enough."""
+    folder = os.path.join(ROOT, 'runs')
+    for name in names(folder):
+        with open(os.path.join(folder, name + '.run'), 'rb') as file:
+            data = file.read()
+        yield 'sheet of ' + name, printed('sheet', data).splitlines(), False
+        yield 'listing of ' + name, printed('listing', data).splitlines(), True
+    run_file = subprocess.run([os.path.join(ROOT, 'bench'), 'typed'], input=longest_text(), capture_output=True).stdout
+    longest = printed('listing', run_file).splitlines()
+    if max(map(len, longest)) != 36:
+        sys.exit('heard: the listing with the longest lines has none of 36 characters')
+    yield 'listing with the longest lines', longest, True
+    yield 'refusals of a text', [line for n in range(41, 51) for line in text.refusal(n, 65536).decode('ascii').splitlines()], True
+    yield 'refusals of a run file', ['refused %d at 1836' % n for n in range(1, 11)], True
+    yield 'refusals of an index', ['%s refused %d' % (name, n) for name in NAMES + ('line',) for n in (11, 12, 13, 15)], True
+
+
+def main():
+    faults = []
+    for name, lines, always in sources():
+        distinct = sorted(set(lines))
+        cells, lost = brailled(distinct)
+        lost += spoken_faults(distinct)
+        length, line = max((len(cell), line) for cell, line in zip(cells, distinct))
+        over = [line for cell, line in zip(cells, distinct) if len(cell) > CELLS]
+        print('%s: %d lines, the longest has %d cells, %d characters: %s' % (name, len(lines), length, len(line), line))
+        for line in over:
+            print('  more than %d cells: %s' % (CELLS, line))
+        faults += lost + (['%s has more than %d cells' % (line, CELLS) for line in over] if always else [])
+    for fault in faults:
+        print('FAULT: ' + fault)
+    print('heard: %d faults' % len(faults))
+    sys.exit(1 if faults else 0)
+
+
+if __name__ == '__main__':
+    main()

@@ -1,0 +1,175 @@
+"""The readings of docs/TEXT.md that go wrong, each as a method that differs from the right one in that alone, and for each the text that tells it apart."""
+import re
+from functools import cached_property
+
+from second.runfile import Run
+from second.text import FORMS, LONGEST, RECORDS, Text, heard, patterns
+
+
+class PairedByPlace(Text):
+    @cached_property
+    def run(self):
+        """The jth up reading of the text belongs to the jth point, cycle after cycle, and so does the jth down reading."""
+        y = {}
+        for stroke in (0, 1):
+            values = [value for _, place, value in self.told if place[:2] == ('reading', stroke)]
+            y.update({(stroke, j // self.m, j % self.m): value for j, value in enumerate(values)})
+        return Run(self.m, self.n, super().run.x, y)
+
+
+class FromOne(Text):
+    def place(self, name, numbers):
+        """The first point is 1 and the first cycle is 1; 0 is then no point of any run."""
+        return super().place(name, [(v - 1) % 256 for v in numbers])
+
+
+class PointForCycle(Text):
+    def place(self, name, numbers):
+        """The first number of a reading is its cycle, and the second its point."""
+        return super().place(name, numbers if name == 'point' else [numbers[1], numbers[0], numbers[2]])
+
+
+class LastOfTwo(Text):
+    @cached_property
+    def first(self):
+        return {place: (line, value) for line, place, value in self.told}
+
+
+class PointsSorted(Text):
+    @cached_property
+    def run(self):
+        """The points by rising input, each with its readings."""
+        run = super().run
+        order = sorted(run.x, key=run.x.get)
+        y = {(s, c, order.index(i)): value for (s, c, i), value in run.y.items()}
+        return Run(run.m, run.n, {j: run.x[i] for j, i in enumerate(order)}, y)
+
+
+class MissingAsZero(Text):
+    def missing(self):
+        return {place for place in super().missing() if place[0] == 'point'}
+
+
+class OneWalk(Text):
+    def complaints(self):
+        """Each line is judged whole before the next one."""
+        return [(FORMS if turn == RECORDS else turn, line, order, number) for turn, line, order, number in super().complaints()]
+
+
+class RecordsFirst(Text):
+    def complaints(self):
+        """The records are judged before the lines that are not understood."""
+        return [(FORMS - 1 if turn == RECORDS else turn, line, order, number) for turn, line, order, number in super().complaints()]
+
+
+class LimitsBeforePlaces(Text):
+    def record_faults(self):
+        return [(turn, line, -order if number == 45 else order, number) for turn, line, order, number in super().record_faults()]
+
+
+class TwiceBeforeLimits(Text):
+    def record_faults(self):
+        return [(turn, line, -order if number == 46 else order, number) for turn, line, order, number in super().record_faults()]
+
+
+class SpeakingLinesAlone(Text):
+    def complaints(self):
+        """Empty lines and notes are not counted."""
+        speaking = [line for line, name, _ in self.spoken if name != 'idle']
+        return [(turn, len([at for at in speaking if at <= line]), order, number) for turn, line, order, number in super().complaints()]
+
+
+class PointBefore(Text):
+    def line_of_point(self, i):
+        return super().line_of_point(max(0, i - 1))
+
+
+class FirstPartAlone(Text):
+    def __init__(self, text):
+        Text.__init__(self, text[:LONGEST])
+
+
+class LengthLast(Text):
+    def length_faults(self):
+        return []
+
+    def complaints(self):
+        return super().complaints() or list(Text.length_faults(self))
+
+
+class SpacesAlone(Text):
+    forms = patterns(parting=b' ')
+
+
+class EveryBlank(Text):
+    forms = patterns(parting=rb'\s')
+
+
+class AnyCase(Text):
+    forms = patterns(flags=re.IGNORECASE)
+
+
+class LongSmalls(Text):
+    forms = patterns(small=rb'([0-9]{1,3})')
+
+
+class LongNumbers(Text):
+    forms = patterns(number=rb'(-?[0-9]{1,8})')
+
+
+class PlusSigns(Text):
+    forms = patterns(number=rb'([-+]?[0-9]{1,7})')
+
+
+# What is done wrongly, the method, and the text that tells it apart.
+WRONG = [
+    ('pairing readings by their place in the text', PairedByPlace, 'sample in reverse'),
+    ('numbering from 1', FromOne, 'sample'),
+    ('taking the point for the cycle', PointForCycle, 'sample'),
+    ('taking the last of two equal readings', LastOfTwo, 'sample with a reading twice'),
+    ('sorting points by input', PointsSorted, 'sample with two inputs exchanged'),
+    ('reading a missing reading as 0', MissingAsZero, 'sample without a reading'),
+    ('judging each line whole before the next', OneWalk, 'sample with a place outside, then a line not understood'),
+    ('judging records before lines that are not understood', RecordsFirst, 'sample with a line not understood, then a place outside'),
+    ('limits before places', LimitsBeforePlaces, 'sample with a place outside and its reading beyond'),
+    ('told before, before limits', TwiceBeforeLimits, 'sample with a reading twice and beyond'),
+    ('counting only the lines that say something', SpeakingLinesAlone, 'sample with a line not understood behind notes'),
+    ('naming the line of the point before', PointBefore, 'sample with two inputs alike'),
+    ('reading only the first 65536 bytes', FirstPartAlone, '65537 bytes with a line feed behind'),
+    ('telling the length last', LengthLast, 'a line not understood in a text too long'),
+    ('words parted by spaces alone', SpacesAlone, 'sample with tabs between words'),
+    ('words parted by every blank of ASCII', EveryBlank, 'sample with form feeds between words'),
+    ('words in any letters', AnyCase, 'sample with capital letters'),
+    ('points of three digits', LongSmalls, 'sample with a point of three digits'),
+    ('readings of eight digits', LongNumbers, 'sample with a reading of eight digits'),
+    ('a plus sign', PlusSigns, 'sample with a plus sign'),
+]
+
+
+def told(answer):
+    """What was answered of a text, and all that a run file has of it."""
+    number, line, run = answer
+    return number, line, run.m, run.n, run.inputs(), run.readings()
+
+
+def sentence(what, name, right, other):
+    shown = ['%d at line %d' % answer[:2] if answer[0] else 'accepted' for answer in (other, right)]
+    if shown[0] == shown[1]:
+        return '%s differs at text %s: another run' % (what, name)
+    return '%s differs at text %s: %s, where %s is due' % (what, name, *shown)
+
+
+def told_apart(texts):
+    """What no text tells from the page, and for each wrong method the text at which it differs."""
+    wrong, told_of = [], []
+    by_name = dict(texts)
+    for what, method, name in WRONG:
+        if name not in by_name:
+            wrong.append('there is no text %s to tell %s from the page' % (name, what))
+            continue
+        right, other = heard(by_name[name]), heard(by_name[name], method)
+        if told(right) == told(other):
+            wrong.append('the text %s does not tell %s from the page' % (name, what))
+        else:
+            told_of.append(sentence(what, name, right, other))
+    return wrong, told_of
