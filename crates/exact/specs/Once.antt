@@ -2,7 +2,7 @@
 use mathlib.Core.Path.{_≡_, refl, sym, ap, _∙_, subst}
 use mathlib.Core.Logic.{⊎-elim}
 use mathlib.Core.List.{_∷_, []}
-use Prim.Native.Nat.{ℕ, _*_, _<_, _≤_, _∣_}
+use Prim.Native.Nat.{ℕ, _+_, _*_, _/_, _<_, _≤_, _∣_}
 use native.Mathlib.Nat as N
 use native.Mathlib.Omega.{arith}
 use native.Mathlib.Decide.{decLt}
@@ -14,7 +14,8 @@ use Rattle.whole.specs.Size.{size-product}
 use Rattle.exact.specs.Divisor.{Gcd}
 use Rattle.exact.specs.Euclid.{gcd-same, coprime-divides}
 use Rattle.exact.specs.Value.{SameWorth, Lowest, Made, nought}
-use Rattle.exact.specs.Rounding.{Nearest, PercentDue}
+use Rattle.exact.specs.Rounding.{distance, Nearest, PercentDue}
+use Rattle.exact.specs.RoundingLaws.{distance-is}
 use Rattle.exact.specs.declared.Fraction.{Fraction}
 use Rattle.exact.specs.declared.Percent.{Percent}
 use Rattle.exact.specs.declared.Percent.the-variants.{Thousandths, Untold}
@@ -53,16 +54,26 @@ one-fraction {n} {d} {f} {g} a b = ⊎-elim (λ e. a .none e ∙ sym (b .none e)
         ∙ ap (λ (t : ℤ). pos (f .den) *ℤ t) (sym (b .worth p))
         ∙ ring (pos (f .den) ∷ g .num ∷ pos d ∷ []) (var 0 ⊗ (var 1 ⊗ var 2)) (var 2 ⊗ (var 1 ⊗ var 0)) tt))
 
--- `nearest`
+-- the rule of rounding, and so `nearest`: between two different even numbers that are equally near lies another, which is nearer
 pub one-nearest : {v d s t : ℕ} → Nearest v d s → Nearest v d t → s ≡ t
 one-nearest {v} {d} {s} {t} a b = N.le-antisymm (not-more a b) (not-more b a)
   where
     not-more : {s t : ℕ} → Nearest v d s → Nearest v d t → s ≤ t
     not-more {s} {t} a b = go (decLt t s)
       where
+        alike : distance v d s ≡ distance v d t
+        alike = N.le-antisymm (a .near t) (b .near s)
+
         go : Dec (t < s) → s ≤ t
-        go (yes h) = let e : ⊥ = omega (arith, a .low, b .high, N.mul-le-mul-right d h) in absurd e
         go (no h) = omega arith
+        go (yes h) =
+            let s-even = N.mod-eq-zero-of-dvd 2 (a .even t (λ e. omega arith) (sym alike)) in
+            let t-even = N.mod-eq-zero-of-dvd 2 (b .even s (λ e. omega arith) alike) in
+            let apart : t * d < s * d = N.mul-lt-mul-of-pos-right h (a .some) in
+            let u = (s + t) / 2 in
+            let twice : 2 * u ≡ s + t = omega arith in
+            let e : ⊥ = omega (arith, alike, distance-is v d s, distance-is v d t, distance-is v d u, a .near u, ap (λ (k : ℕ). k * d) twice) in
+            absurd e
 
 -- `thousandths`
 pub one-percent : (f : Fraction) (p q : Percent) → PercentDue f p → PercentDue f q → p ≡ q

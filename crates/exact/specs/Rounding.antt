@@ -1,15 +1,21 @@
--- Thousandths of one percent (the paper, "Thousandths are the index in thousandths of one percent, rounded to the nearest whole, a half upwards"). Definitions only.
-use Prim.Native.Nat.{ℕ, _+_, _*_, _<_, _≤_}
-use lib.IntN.{pos, natAbs}
+-- Thousandths of one percent, and the rule by which they are rounded (request C-12, after GB/T 8170: a half goes to the even neighbour). Definitions only.
+use mathlib.Core.Path.{_≡_}
+use Prim.Native.Nat.{ℕ, _*_, _<_, _≤_, _∣_}
+use lib.IntN.{pos, natAbs, _-ℤ_}
 use lib.Signed.{_≤ℤ_}
 use Rattle.exact.specs.declared.Fraction.{Fraction}
 use Rattle.exact.specs.declared.Percent.{Percent}
 use Rattle.exact.specs.declared.Percent.the-variants.{Thousandths, Untold}
 
--- t is the whole number nearest to v/d, a half upwards: 2t - 1 ≤ 2v/d < 2t + 1. Request C-12 changes this rule, here and in the function `nearest`
+-- how far the whole number t lies from v/d, in dths
+abbrev pub distance : (v d t : ℕ) → ℕ
+distance v d t = natAbs (pos v -ℤ pos (t * d))
+
+-- t is a whole number nearest to v/d, and where another is equally near t is the even one
 pub record Nearest (v d t : ℕ) : Type 0 where
-  pub low : 2 * t * d ≤ 2 * v + d
-  pub high : 2 * v < (2 * t + 1) * d
+  pub some : 0 < d
+  pub near : (u : ℕ) → distance v d t ≤ distance v d u
+  pub even : (u : ℕ) → (u ≡ t → ⊥) → distance v d u ≡ distance v d t → 2 ∣ t
 
 -- the numerators n for which 100,000·n fits a u64; an index of the bench has one of at most 12,400,000,000,000
 abbrev pub largest : ℕ

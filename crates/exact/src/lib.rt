@@ -69,14 +69,21 @@ pub fn lowest(num: i64, den: u64) -> Fraction
     }
 }
 
-// The whole number nearest to v/d, a half upwards.
+// The whole number nearest to v/d; of two that are equally near the even one. No other function rounds.
 fn nearest(v: u64, d: u64) -> u64
     requires { ⌜ 0 < d ⌝ }
     ensures { λ r. ⌜ Nearest v d r ⌝ }
 {
     let whole = v / d;
     let rest = v % d;
-    if rest < d - rest { whole } else { whole + 1 }
+    let lacks = d - rest;
+    if rest < lacks {
+        return whole;
+    }
+    if lacks < rest {
+        return whole + 1;
+    }
+    whole + whole % 2
 }
 
 // f in thousandths of one percent. Untold are a negative fraction, one over zero, and one whose numerator times 100,000 does not fit.

@@ -52,6 +52,9 @@ certificates =
     & one-line 36 2 (varies 1 (up 0 1 2) sample-limits)
     & one-line 52 1 (lh (up 0 1 2))
     & one-line 61 1 (lhr (up 0 1 2) sample-limits)
+    & one-line 1 1 (far 1)
+    & one-line 3 1 (far 1)
+    & one-line 5 1 (far 1)
     & tt
 
 -- ---- the test of the whole table

@@ -9,6 +9,7 @@ use lib.Dec.{T}
 use lib.IntN.{ℤ, pos, natAbs, ℤ-discrete}
 use lib.Signed.{_≤ℤ_, _<ℤ_, clashℤ}
 use Rattle.whole.specs.Sign.{le-or-gt}
+use Rattle.exact.specs.RoundingLaws.{some-nearest}
 use Rattle.run.specs.Run.{input}
 use Rattle.run.specs.Limits.{verdict}
 use Rattle.run.specs.Checked.{Checked, checked}
@@ -22,7 +23,7 @@ use Rattle.indices.specs.Pinned.{first-negative, below-first, not-negative}
 use Rattle.indices.specs.declared.Answer.{Answer}
 use Rattle.indices.specs.declared.Index.{Index}
 use Rattle.indices.specs.declared.Index.the-variants as index
-use Rattle.promises.specs.Some.{some-made, some-nearest, some-largest}
+use Rattle.promises.specs.Some.{some-made, some-largest}
 use Rattle.promises.specs.Lines as L
 use Rattle.promises.specs.Lines.{TheBest, Fitted, some-fit, independent}
 use Rattle.promises.specs.Pins.{through-origin, through-first}

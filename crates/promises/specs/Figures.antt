@@ -1,5 +1,5 @@
 -- The figures of the paper that are marked P, as one table (the paper, "Figures to meet"): a run, an index, and every field of the answer. `Certified` proves that each answer is the one that is due.
--- The rows of Zero and Front are those of request C-11, of the paper's run, and one where an input at zero decides the width.
+-- The rows of Zero and Front are those of request C-11, of the paper's run, and one where an input at zero decides the width. The last three are the halves of request C-12.
 -- Tables A4 and A1 of the Standard stand in hundredths, as one cycle with both strokes equal.
 use mathlib.Core.List.{List, [], _∷_}
 use Prim.Native.Nat.{ℕ}
@@ -42,6 +42,10 @@ zeros = let y : List ℕ = 0 ∷ 0 ∷ 0 ∷ [] in once (0 ∷ 10 ∷ 20 ∷ [])
 abbrev pub zero-decides : Run
 zero-decides = let y : List ℕ = 11 ∷ 90 ∷ 210 ∷ [] in once (0 ∷ 10 ∷ 20 ∷ []) y y
 
+-- 0 and 200,000 at the ends, one value in the middle: what it is off 100,000 counts halves of a thousandth of one percent
+abbrev pub bowed : (value : ℕ) → Run
+bowed value = let y : List ℕ = 0 ∷ value ∷ 200000 ∷ [] in once (0 ∷ 10 ∷ 20 ∷ []) y y
+
 pub record Figure : Type 0 where
   pub run : Run
   pub which : Index
@@ -74,4 +78,7 @@ figures =
     ∷ figure sample index.Repeatability (fields 0 (whole 18) (whole 100) (over (negsuc 92) 2) (over (pos 9) 1000) 900)
     ∷ figure sample index.Lh (fields 0 (whole 52) (whole 100) (over (negsuc 47) 1) (over (pos 13) 500) 2600)
     ∷ figure sample index.Lhr (fields 0 (whole 61) (whole 100) (over (negsuc 56) 1) (over (pos 61) 2000) 3050)
+    ∷ figure (bowed 100001) index.Terminal (fields 0 (whole 1) (whole 10000) (whole 0) (over (pos 1) 200000) 0)
+    ∷ figure (bowed 100003) index.Terminal (fields 0 (whole 3) (whole 10000) (whole 0) (over (pos 3) 200000) 2)
+    ∷ figure (bowed 100005) index.Terminal (fields 0 (whole 5) (whole 10000) (whole 0) (over (pos 1) 40000) 2)
     ∷ []

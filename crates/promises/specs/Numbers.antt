@@ -11,6 +11,8 @@ use lib.Signed.{_<ℤ_}
 use Rattle.whole.specs.Flags.{cond-ind}
 use Rattle.exact.specs.Value.{nought}
 use Rattle.exact.specs.Rounding.{Nearest}
+use Rattle.exact.specs.RoundingLaws.{some-nearest}
+use Rattle.exact.specs.Once.{one-nearest}
 use Rattle.exact.specs.declared.Fraction.{Fraction}
 use Rattle.limits.specs.Limits.{sizes}
 use Rattle.run.specs.Run.{input, zeros}
@@ -83,7 +85,7 @@ module _ {r : Run} {L : Line} {w z : ℕ} {a : indices.Answer} (s : Stands r L w
           times z n = omega arith
 
       zero-percent : {f : Fraction} {t : ℕ} → f ≡ nought → Nearest (100000 * natAbs (f .num)) (f .den) t → t ≡ 0
-      zero-percent {f} {t} d n = let m = subst (λ (f : Fraction). Nearest (100000 * natAbs (f .num)) (f .den) t) d n in omega (arith, m .low)
+      zero-percent {f} {t} d n = let m = subst (λ (f : Fraction). Nearest (100000 * natAbs (f .num)) (f .den) t) d n in one-nearest m (some-nearest 0 1 (omega arith) .1)
 
       go : Dec (L .a ≡ pos 0) → (a .index ≡ nought) × (a .thousandths ≡ 0)
       go (yes d) = let i = s .index .none (none d) in (i, zero-percent i (s .thousandths))

@@ -1,14 +1,12 @@
--- What an answer is made of is there: a fraction in lowest terms, a nearest whole number, and the largest of finitely many numbers.
+-- What an answer is made of is there: a fraction in lowest terms, and the largest of finitely many numbers. That there is a nearest whole number is in `exact`, `RoundingLaws`.
 use mathlib.Core.Path.{refl}
-use Prim.Native.Nat.{ℕ, zero, suc, _+_, _*_, _-_, _/_, _%_, _<_, _≤_}
-use native.Mathlib.Nat.{mod-lt, div-add-mod'}
+use Prim.Native.Nat.{ℕ, zero, suc, _-_, _<_, _≤_}
 use native.Mathlib.Omega.{arith}
 use lib.IntN.{ℤ, pos, natAbs, negℤ}
 use lib.Signed.{_≤ℤ_}
 use Rattle.whole.specs.Balance as B
 use Rattle.whole.specs.Balance.{int, nat, opp, _⊠_}
 use Rattle.exact.specs.Value.{Made, nought}
-use Rattle.exact.specs.Rounding.{Nearest}
 use Rattle.exact.specs.Euclid.{gcd-within}
 use Rattle.exact.specs.Terms.{through, made-through, made-nought}
 use Rattle.exact.specs.declared.Fraction.{Fraction}
@@ -21,13 +19,6 @@ some-made n zero = (nought, made-nought n 0 refl)
 some-made n (suc d) =
     let g = gcd-within (suc (suc d)) (natAbs n) (suc d) (omega arith) in
     (through n (suc d) (g .0), made-through (omega arith) n (g .1))
-
-pub some-nearest : (v d : ℕ) → 0 < d → (t : ℕ) × Nearest v d t
-some-nearest v d h =
-    let n = 2 * v + d in
-    let k = 2 * d in
-    let below : n % k < k = mod-lt n (omega arith) in
-    (n / k, record { low = omega (arith, div-add-mod' n k); high = omega (arith, div-add-mod' n k, below) })
 
 -- ---- the largest
 pub record Top (m : ℕ) (f : ℕ → ℤ) : Type 0 where

@@ -16,6 +16,7 @@ use Rattle.exact.specs.Divisor.{Gcd}
 use Rattle.exact.specs.Euclid.{gcd-zero, gcd-step}
 use Rattle.exact.specs.Value.{Made, nought}
 use Rattle.exact.specs.Rounding.{Nearest}
+use Rattle.exact.specs.RoundingLaws.{some-nearest}
 use Rattle.exact.specs.declared.Fraction.{Fraction}
 use Rattle.run.specs.declared.Run.{Run}
 use Rattle.band.specs.Line.{Line}
@@ -60,9 +61,8 @@ made-by n d f t =
     }
 
 nearest-by : (v d t : ℕ) → T (nearest v d t) → Nearest v d t
-nearest-by v d t h =
-    let s = and-yes (leb (2 * t * d) (2 * v + d)) (ltb (2 * v) ((2 * t + 1) * d)) h in
-    record { low = leb→le (2 * t * d) (2 * v + d) (s .0); high = ltb→lt (2 * v) ((2 * t + 1) * d) (s .1) }
+nearest-by v zero t h = absurd h
+nearest-by v (suc d) t h = let r = some-nearest v (suc d) (omega arith) in subst (Nearest v (suc d)) (eqb→eq (r .0) t h) (r .1)
 
 pub alike-by : (w z w′ z′ : ℕ) → T (all (alike w z w′ z′)) → Alike w z w′ z′
 alike-by w z w′ z′ t =

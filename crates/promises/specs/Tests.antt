@@ -7,6 +7,7 @@ use lib.Dec.{leb, ltb, eqb}
 use lib.IntN.{ℤ, pos, natAbs, _-ℤ_, _*ℤ_}
 use lib.Signed.{leZ}
 use Rattle.whole.specs.Every.{every}
+use Rattle.exact.specs.RoundingLaws.{some-nearest}
 use Rattle.exact.specs.declared.Fraction.{Fraction}
 use Rattle.run.specs.declared.Run.{Run}
 use Rattle.groups.specs.Sums.{too-small}
@@ -40,8 +41,10 @@ zero-one f = same (f .num) (pos 0) && eqb (f .den) 1
 abbrev pub made : ℤ → ℕ → Fraction → List Bool
 made n d f = ltb 0 (f .den) ∷ eqb (divisor 64 (natAbs (f .num)) (f .den)) 1 ∷ same (f .num *ℤ pos d) (n *ℤ pos (f .den)) ∷ (ltb 0 d || zero-one f) ∷ []
 
+-- t is the whole number that the rule of rounding has for v/d
 abbrev pub nearest : (v d t : ℕ) → Bool
-nearest v d t = leb (2 * t * d) (2 * v + d) && ltb (2 * v) ((2 * t + 1) * d)
+nearest v zero t = false
+nearest v (suc d) t = eqb (some-nearest v (suc d) (omega arith) .0) t
 
 -- w/z and w′/z′ are one number
 abbrev pub alike : (w z w′ z′ : ℕ) → List Bool
