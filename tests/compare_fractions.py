@@ -1,5 +1,7 @@
-"""Holds what the program `figures` prints to what second/rational.py says, line for line."""
+"""Holds what the program `figures` prints to what second/rational.py says, line for line, and the rounding of both to Python's own."""
 import random
+from fractions import Fraction
+from math import ceil, floor
 
 from requests import signed, word
 from second import rational
@@ -25,20 +27,31 @@ def cases(seed=18459):
             n, d = n * common, d * common
         yield n, d
     for _ in range(1000):
-        # an odd number of halves of a thousandth
+        # an odd number of halves of a thousandth, or nearly one
         yield 2 * make.randrange(2**20) + 1, 200000 * make.choice((1, 1, 3, 7)) // make.choice((1, 1, 2, 4, 5))
+    # the three halves that C-12 names, and their neighbours
+    for n in (1, 3, 5):
+        for d in (199999, 200000, 200001):
+            yield n, d
 
 
 def encode(num, den):
     return signed([num]) + word(den)
 
 
-def wrong_ways(num, den):
-    """Roundings that another reader of the paper might take, by name."""
-    n, d = rational.lowest(num, den)
-    down = n * 100000 // d
-    rest = 2 * (n * 100000 - down * d) - d
-    return {'down': down, 'a half downwards': down + (rest > 0), 'a half to the even': down + (rest > 0 or rest == 0 and down % 2 == 1)}
+# The halves that C-12 names, in thousandths of one percent.
+NAMED_HALVES = {(1, 200000): 0, (3, 200000): 2, (5, 200000): 2}
+HALF = Fraction(1, 2)
+
+# Roundings that another reader might take. A negative fraction is never told, so that downwards and towards zero are one here; each is tried by its own rule all the same.
+WRONG_WAYS = {
+    'down': floor,
+    'up': ceil,
+    'a half upwards': lambda value: floor(value + HALF),
+    'a half downwards': lambda value: ceil(value - HALF),
+    'a half towards zero': lambda value: floor(abs(value) + HALF) - (abs(value) % 1 == HALF),
+    'a half to the odd': lambda value: floor(value) | 1 if value % 1 == HALF else round(value),
+}
 
 
 def compare(run):
@@ -48,7 +61,7 @@ def compare(run):
     wrong = []
     if printed[-1] != '' or len(printed) != len(made) + 1:
         return 0, ['figures printed %d lines for %d records' % (len(printed) - 1, len(made))], []
-    met = dict.fromkeys(['over zero', 'zero', 'negative', 'reduced', 'untold for size', 'a half'], 0)
+    met = dict.fromkeys(['over zero', 'zero', 'negative', 'reduced', 'untold for size', 'a half below an even', 'a half below an odd'], 0)
     differs = {}
     for (n, d), got in zip(made, printed):
         due = rational.line(n, d)
@@ -62,12 +75,16 @@ def compare(run):
         met['reduced'] += low != (n, d)
         met['untold for size'] += t is None and n > 0
         if t is not None:
-            met['a half'] += (2 * 100000 * low[0] + low[1]) % (2 * low[1]) == 0
-            for name, other in wrong_ways(n, d).items():
-                if other != t:
+            value = Fraction(low[0] * 100000, low[1])
+            if t != round(value) or t != NAMED_HALVES.get((n, d), t):
+                wrong.append('the second program rounds %d/%d to %d' % (n, d, t))
+            if value % 1 == HALF:
+                met['a half below an %s' % ('odd' if floor(value) % 2 == 0 else 'even')] += 1
+            for name, way in WRONG_WAYS.items():
+                if way(value) != t:
                     differs.setdefault(name, '%d/%d' % (n, d))
     wrong += ['no fraction %s was tried' % name for name, count in met.items() if count == 0]
-    wrong += ['no fraction tells %s from the rule' % name for name in ('down', 'a half downwards', 'a half to the even') if name not in differs]
+    wrong += ['no fraction tells rounding %s from the rule' % name for name in WRONG_WAYS if name not in differs]
     told = ['fractions met: ' + ', '.join('%s %d' % item for item in met.items())]
     told += ['rounding %s would differ at %s' % item for item in differs.items()]
     return len(made), wrong, told

@@ -59,13 +59,15 @@ FIGURES = [
     ('c2', 'independent', {'number': '0', 'thousandths': '167'}),
     ('c2', 'hysteresis', {'number': '0', 'thousandths': '214'}),
     ('c2', 'lh', {'number': '0', 'thousandths': '239'}),
-    # ... of a4 seen in a mirror, which are those of a4 but for the lines through a point at one side, of half a thousandth, which goes upwards, ...
+    # ... of a4 seen in a mirror, which are those of a4 but for the lines through a point at one side, of the three halves that C-12 names, ...
     ('a4 falling', 'terminal', {'number': '0', 'index': '69/5015', 'thousandths': '1376'}),
     ('a4 falling', 'shifted', {'number': '0', 'index': '97/10030', 'thousandths': '967'}),
     ('a4 falling', 'independent', {'number': '0', 'index': '9/1010', 'thousandths': '891'}),
     ('a4 falling', 'zero', {'number': '0', 'width': '1004/1', 'slope': '201/1', 'offset': '0/1', 'index': '1004/1005', 'thousandths': '99900'}),
     ('a4 falling', 'front', {'number': '0', 'width': '69/7', 'slope': '-1418/7', 'offset': '9853/7', 'index': '69/7090', 'thousandths': '973'}),
-    ('half', 'terminal', {'number': '0', 'index': '1/200000', 'thousandths': '1'}),
+    ('half', 'terminal', {'number': '0', 'index': '1/200000', 'thousandths': '0'}),
+    ('one and a half', 'terminal', {'number': '0', 'index': '3/200000', 'thousandths': '2'}),
+    ('two and a half', 'terminal', {'number': '0', 'index': '1/40000', 'thousandths': '2'}),
     # ... and of lines through the origin and the first point, in the head: a value at input zero that decides, a negative input, slope zero.
     ('value 9 at zero', 'zero', {'number': '0', 'width': '10/1', 'slope': '10/1', 'offset': '0/1', 'index': '1/20', 'thousandths': '5000'}),
     ('value 10 at zero', 'zero', {'number': '0', 'width': '10/1', 'slope': '10/1', 'offset': '0/1', 'index': '1/20', 'thousandths': '5000'}),
@@ -241,6 +243,32 @@ def refusals_met(dues):
     return met
 
 
+def halves_met(dues):
+    """How many sheets have a percent that was a half, below an even whole number and below an odd one, and how often each line of a sheet was one."""
+    met = {'below an even': dict.fromkeys(('sheets',) + NAMES, 0), 'below an odd': dict.fromkeys(('sheets',) + NAMES, 0)}
+    for due in dues:
+        kinds = set()
+        for name, index, *_ in (line.split(' ') for line in due.decode('ascii').split('\n') if '/' in line and not line.startswith('line ')):
+            num, den = map(int, index.split('/'))
+            # halves of a thousandth of one percent: the index is a half where they are an odd number
+            halves, rest = divmod(200000 * num, den)
+            if rest == 0 and halves % 2:
+                kind = 'below an even' if halves % 4 == 3 else 'below an odd'
+                met[kind][name] += 1
+                kinds.add(kind)
+        for kind in kinds:
+            met[kind]['sheets'] += 1
+    return met
+
+
+def too_few_halves(met):
+    """Both ways of rounding a half are to be met on 200 sheets each, and on each of the nine lines."""
+    for kind, counts in met.items():
+        if counts['sheets'] < 200:
+            yield 'only %d sheets have a half %s' % (counts['sheets'], kind)
+        yield from ('no %s was a half %s' % (name, kind) for name in NAMES if not counts[name])
+
+
 def numbers_met(benches):
     """How often each index was answered with each number."""
     met = {name: {} for name in NAMES}
@@ -255,8 +283,8 @@ def counts_text(counts):
 
 
 def program_files(files, dues):
-    """About thirty-five files for the program itself: named ones, one of each refusal, shuffled ones, and two of 5,000 bytes."""
-    chosen = ['sample', 'a1', 'a4', 'c2', 'lh single', 'lh not single', 'zeros', 'a4 falling', 'half', 'value 10 at zero', 'value 11 at zero', 'negative', 'front level', 'empty', 'widest scatter, 10 cycles, 1', 'longest with 1000 bytes behind', 'rubbish of 4096 bytes']
+    """Nearly forty files for the program itself: named ones, one of each refusal, shuffled ones, and two of 5,000 bytes."""
+    chosen = ['sample', 'a1', 'a4', 'c2', 'lh single', 'lh not single', 'zeros', 'a4 falling', 'half', 'one and a half', 'two and a half', 'value 10 at zero', 'value 11 at zero', 'negative', 'front level', 'empty', 'widest scatter, 10 cycles, 1', 'longest with 1000 bytes behind', 'rubbish of 4096 bytes']
     where = named_files(files)
     picked = [where[name] for name in chosen]
     for number in range(1, 11):
@@ -338,8 +366,11 @@ def compare(run):
     wrong += own_faults(made.files, made.dues, made.runs, made.lines)
     met, per_index = made.met()
     wrong += missing(met, per_index)
+    halves = halves_met(made.dues)
+    wrong += too_few_halves(halves)
     more, told = wrong_sheets.told_apart(made.files, made.dues)
     first = ['sheets: %d files, %d runs built by hand, %d files by the program itself' % (len(made.files), len(made.runs), len(chosen))]
     first += ['refusals met on sheets: ' + counts_text(met)]
     first += ['%s met: %s' % (name, counts_text(per_index[name])) for name in NAMES]
+    first += ['halves %s met on %d sheets: %s' % (kind, counts['sheets'], ', '.join('%s %d' % (name, counts[name]) for name in NAMES)) for kind, counts in halves.items()]
     return len(cases) + len(chosen), wrong + more, first + told

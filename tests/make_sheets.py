@@ -2,6 +2,7 @@
 import random
 
 import make_files
+import make_halves
 from make_files import paper_run, random_run, with_point, with_reading
 from second.runfile import CYCLES, M_LIMITS, N_LIMITS, POINTS, SCATTER, X_LIMIT, Y_LIMIT, Run, file_of, framed, point_record, reading_record, travel
 
@@ -30,8 +31,9 @@ def named():
     yield 'zeros', one_cycle([0, 10, 20], [0, 0, 0])
     # the mirror image of a4: every index is that of a4 but the two whose line goes through a point at one side
     yield 'a4 falling', one_cycle([1, 2, 3, 4, 5, 6], a4[::-1])
-    # terminal width 1 over 200,000: half a thousandth
-    yield 'half', one_cycle([0, 10, 20], [0, 100001, 200000])
+    # terminal widths of 1, 3 and 5 over 200,000: so many halves of a thousandth
+    for what, width in (('half', 1), ('one and a half', 3), ('two and a half', 5)):
+        yield what, one_cycle([0, 10, 20], [0, 100000 + width, 200000])
     # beyond zero the line is 10 times the input, with width 10: the value at zero is within it, on it, and more
     for value in (9, 10, 11, 50):
         yield 'value %d at zero' % value, one_cycle([0, 10, 20], [value, 90, 210])
@@ -327,9 +329,14 @@ def large_from_zero(make):
         yield 'large figures from zero %d' % which, run_of(x, up, down)
 
 
+def halves(make):
+    for name, x, up, down in make_halves.halves(make):
+        yield name, run_of(x, up, down)
+
+
 def families(seed=18459):
     make = random.Random(seed)
-    for family in (every_size, falling, near_linear, once, level, not_single, between_one_and_many, tiny, extremes, large_figures, first_inputs, through_zero, value_at_zero, balanced_beyond, tiny_from_zero, large_from_zero):
+    for family in (every_size, falling, near_linear, once, level, not_single, between_one_and_many, tiny, extremes, large_figures, first_inputs, through_zero, value_at_zero, balanced_beyond, tiny_from_zero, large_from_zero, halves):
         yield from family(make)
 
 

@@ -1,11 +1,13 @@
 """The readings of the paper and the Standard that go wrong, and idle programs, each as a method that differs from the right one in that alone, and the files that tell them apart."""
 from fractions import Fraction
-from math import ceil, floor
+from math import ceil, floor, trunc
 
 import compare_files
 import make_files
-from second import lines
+from second import lines, rational
 from second.sheet import DOWN, UP, Bench, refused, sheet
+
+HALF = Fraction(1, 2)
 
 
 class PairedByPlace(Bench):
@@ -35,8 +37,14 @@ class HalvedHysteresis(Bench):
 
 class RoundedTwice(Bench):
     def thousandths(self, index):
-        """First to four decimals of a percent, then to three, as 0.825 of A1 came about."""
-        return (floor(index * 1000000 + Fraction(1, 2)) + 5) // 10
+        """First to four decimals of a percent, then to three."""
+        return rational.nearest(Fraction(rational.nearest(index * 1000000), 10))
+
+
+class RoundedTwiceUpwards(Bench):
+    def thousandths(self, index):
+        """The same with a half upwards, as 0.825 of A1 came about."""
+        return (floor(index * 1000000 + HALF) + 5) // 10
 
 
 class Cut(Bench):
@@ -49,9 +57,27 @@ class RoundedUp(Bench):
         return ceil(index * 100000)
 
 
+class HalfUpwards(Bench):
+    def thousandths(self, index):
+        return floor(index * 100000 + HALF)
+
+
 class HalfDownwards(Bench):
     def thousandths(self, index):
-        return ceil(index * 100000 - Fraction(1, 2))
+        return ceil(index * 100000 - HALF)
+
+
+class HalfTowardsZero(Bench):
+    def thousandths(self, index):
+        """Of the whole part and its neighbour away from zero the second only where it is nearer. No index is negative, so that this is a half downwards."""
+        value = index * 100000
+        return trunc(value) + (abs(value) % 1 > HALF)
+
+
+class HalfToOdd(Bench):
+    def thousandths(self, index):
+        value = index * 100000
+        return floor(value) | 1 if value % 1 == HALF else rational.nearest(value)
 
 
 class LeastSquares(Bench):
@@ -188,10 +214,14 @@ WRONG = [
     ('a terminal slope from the largest less the smallest output', LargestLessSmallestSlope, ('a4 falling', 1, None)),
     ('a full-span output of the largest less the smallest output', LargestLessSmallestSpan, None),
     ('half the hysteresis', HalvedHysteresis, ('c2', 6, '0.107')),
-    ('rounding twice', RoundedTwice, ('a1', 1, '0.825')),
+    ('rounding twice', RoundedTwice, None),
+    ('rounding twice, a half upwards', RoundedTwiceUpwards, ('a1', 1, '0.825')),
     ('rounding up', RoundedUp, ('a1', 1, '0.825')),
     ('cutting the percent', Cut, None),
-    ('rounding a half downwards', HalfDownwards, ('half', 1, '0.000')),
+    ('rounding a half upwards', HalfUpwards, ('two and a half', 1, '0.003')),
+    ('rounding a half downwards', HalfDownwards, ('one and a half', 1, '0.001')),
+    ('rounding a half towards zero', HalfTowardsZero, ('one and a half', 1, '0.001')),
+    ('rounding a half to the odd neighbour', HalfToOdd, ('half', 1, '0.001')),
     ('the least-squares line for the best one', LeastSquares, None),
     ('the shifted terminal line for the best one', ShiftedTerminal, None),
     ('the independent line moved to the origin for the zero-based one', IndependentMovedToOrigin, ('sample', 4, '4.750')),

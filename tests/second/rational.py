@@ -1,6 +1,6 @@
-"""Fractions, by another method than the bench's: a divisor by halving and subtracting, and rounding as the floor of the value and a half."""
+"""Fractions, by another method than the bench's: a divisor by halving and subtracting, and rounding by how far the two whole numbers beside a value lie from it."""
 from fractions import Fraction
-from math import floor
+from math import ceil, floor
 
 LARGEST_U64 = 2**64 - 1
 
@@ -32,11 +32,16 @@ def lowest(num, den):
     return num // g, den // g
 
 
+def nearest(value):
+    """The whole number nearest to a value, and of two that are equally near the even one (GB/T 8170). Nothing else here rounds."""
+    return min(floor(value), ceil(value), key=lambda whole: (abs(value - whole), whole % 2))
+
+
 def thousandths(num, den):
-    """Thousandths of one percent, a half upwards, or None where the bench tells none."""
+    """Thousandths of one percent, or None where the bench tells none."""
     if num < 0 or den == 0 or num * 100000 > LARGEST_U64:
         return None
-    return floor(Fraction(num * 100000, den) + Fraction(1, 2))
+    return nearest(Fraction(num * 100000, den))
 
 
 def line(num, den):

@@ -1,5 +1,5 @@
--- Laws of the rule of rounding: every value is rounded to some whole number, and a whole value to itself. That there is one only is in `Once`.
-use mathlib.Core.Path.{_≡_, refl, sym, ap, _∙_, subst}
+-- Laws of the rule of rounding: some whole number always fits, and which one it is by the rest of v divided by d. That only one fits is in `Once`.
+use mathlib.Core.Path.{_≡_, ap, subst}
 use mathlib.Core.Bool.{cond}
 use mathlib.Core.Logic.{_⊎_, inl, inr, ⊎-elim}
 use Prim.Native.Nat.{ℕ, zero, suc, _+_, _*_, _-_, _/_, _%_, _<_, _≤_, _∣_}
@@ -21,14 +21,14 @@ distance-is v d t = size (pos v -ℤ pos (t * d)) v (t * d) (weighs (nat v ⊟ n
     size (pos n) p q h = omega arith
     size (negsuc n) p q h = omega arith
 
--- where a whole number u lies from a value of `whole` and rest/d: it is one of the two neighbours, or a whole unit away at least
-data Lies (d whole rest u far : ℕ) : Type 0 where
-  below : u ≡ whole → far ≡ rest → Lies d whole rest u far
-  above : u ≡ whole + 1 → far ≡ d - rest → Lies d whole rest u far
-  beyond : d ≤ far → Lies d whole rest u far
+-- where a whole number u lies, far dths from v/d: it is one of the two neighbours of v/d, or a whole unit away at least
+data Lies (v d u far : ℕ) : Type 0 where
+  below : u ≡ v / d → far ≡ v % d → Lies v d u far
+  above : u ≡ v / d + 1 → far ≡ d - v % d → Lies v d u far
+  beyond : d ≤ far → Lies v d u far
 
 module _ (v d : ℕ) (p : 0 < d) where
-  lies : (u : ℕ) → Lies d (v / d) (v % d) u (distance v d u)
+  lies : (u : ℕ) → Lies v d u (distance v d u)
   lies u = lower (decLt u (v / d))
     where
       far : distance v d u ≡ (v - u * d) + (u * d - v)
@@ -40,20 +40,21 @@ module _ (v d : ℕ) (p : 0 < d) where
       small : v % d < d
       small = N.mod-lt v p
 
-      at : Dec (u ≡ v / d) → Dec (u ≡ v / d + 1) → (v / d ≤ u) → Lies d (v / d) (v % d) u (distance v d u)
+      at : Dec (u ≡ v / d) → Dec (u ≡ v / d + 1) → v / d ≤ u → Lies v d u (distance v d u)
       at (yes e) _ h = below e (omega (arith, far, is, ap (λ (t : ℕ). t * d) e))
       at (no n) (yes e) h = above e (omega (arith, far, is, small, ap (λ (t : ℕ). t * d) e))
       at (no n) (no m) h = let k : v / d + 2 ≤ u = omega arith in beyond (omega (arith, far, is, small, N.mul-le-mul-right d k))
 
-      lower : Dec (u < v / d) → Lies d (v / d) (v % d) u (distance v d u)
+      lower : Dec (u < v / d) → Lies v d u (distance v d u)
       lower (yes h) = beyond (omega (arith, far, is, N.mul-le-mul-right d h))
       lower (no h) = at (ℕ-discrete u (v / d)) (ℕ-discrete u (v / d + 1)) (omega arith)
 
-  -- a whole number to which no neighbour is nearer, and which is even if another one is equally near
-  nearest-of : (t : ℕ) → distance v d t ≤ v % d → distance v d t ≤ d - v % d → ((u : ℕ) → Lies d (v / d) (v % d) u (distance v d t) → (u ≡ t) ⊎ (2 ∣ t)) → Nearest v d t
-  nearest-of t l h alone = record { some = p; near = λ u. near (lies u); even = λ u n e. ⊎-elim (λ (q : u ≡ t). absurd (n q)) (λ (g : 2 ∣ t). g) (alone u (subst (Lies d (v / d) (v % d) u) e (lies u))) }
+  -- a whole number than which neither neighbour is nearer, and which is even if another one is equally near
+  nearest-of : (t : ℕ) → distance v d t ≤ v % d → distance v d t ≤ d - v % d → ((u : ℕ) → Lies v d u (distance v d t) → (u ≡ t) ⊎ (2 ∣ t)) → Nearest v d t
+  nearest-of t l h alone =
+      record { some = p; near = λ u. near (lies u); even = λ u n e. ⊎-elim (λ (q : u ≡ t). absurd (n q)) (λ (g : 2 ∣ t). g) (alone u (subst (Lies v d u) e (lies u))) }
     where
-      near : {u : ℕ} → Lies d (v / d) (v % d) u (distance v d u) → distance v d t ≤ distance v d u
+      near : {u : ℕ} → Lies v d u (distance v d u) → distance v d t ≤ distance v d u
       near (below _ f) = omega arith
       near (above _ f) = omega arith
       near (beyond f) = omega (arith, N.mod-lt v p)
@@ -68,21 +69,21 @@ module _ (v d : ℕ) (p : 0 < d) where
   pub nearest-below : v % d < d - v % d → Nearest v d (v / d)
   nearest-below h = nearest-of (v / d) (omega (arith, at-whole)) (omega (arith, at-whole)) alone
     where
-      alone : (u : ℕ) → Lies d (v / d) (v % d) u (distance v d (v / d)) → (u ≡ v / d) ⊎ (2 ∣ v / d)
-      alone u (below e f) = inl e
-      alone u (above e f) = absurd (omega (arith, at-whole))
+      alone : (u : ℕ) → Lies v d u (distance v d (v / d)) → (u ≡ v / d) ⊎ (2 ∣ v / d)
+      alone u (below e _) = inl e
+      alone u (above _ f) = absurd (omega (arith, at-whole))
       alone u (beyond f) = absurd (omega (arith, at-whole, N.mod-lt v p))
 
   -- ... more, ...
   pub nearest-above : d - v % d < v % d → Nearest v d (v / d + 1)
   nearest-above h = nearest-of (v / d + 1) (omega (arith, at-next)) (omega (arith, at-next)) alone
     where
-      alone : (u : ℕ) → Lies d (v / d) (v % d) u (distance v d (v / d + 1)) → (u ≡ v / d + 1) ⊎ (2 ∣ v / d + 1)
-      alone u (below e f) = absurd (omega (arith, at-next))
-      alone u (above e f) = inl e
+      alone : (u : ℕ) → Lies v d u (distance v d (v / d + 1)) → (u ≡ v / d + 1) ⊎ (2 ∣ v / d + 1)
+      alone u (below _ f) = absurd (omega (arith, at-next))
+      alone u (above e _) = inl e
       alone u (beyond f) = absurd (omega (arith, at-next, N.mod-lt v p))
 
-  -- ... or half of it
+  -- ... or half of d
   pub nearest-even : v % d ≡ d - v % d → Nearest v d (v / d + v / d % 2)
   nearest-even h = nearest-of (v / d + v / d % 2) (omega (arith, far)) (omega (arith, far)) (λ u _. inr (N.dvd-of-mod-eq-zero 2 even))
     where
@@ -98,13 +99,19 @@ module _ (v d : ℕ) (p : 0 < d) where
       far : distance v d (v / d + v / d % 2) ≡ v % d
       far = both (v / d % 2) (omega arith)
 
--- one always fits
+-- what fits where the rest is not below half of d
+abbrev otherwise : (v d : ℕ) → ℕ
+otherwise v d = cond (ltb (d - v % d) (v % d)) (v / d + 1) (v / d + v / d % 2)
+
+-- one always fits. What it is can be computed: so a figure is tested by this definition, and not by another
 abbrev pub some-nearest : (v d : ℕ) → 0 < d → (t : ℕ) × Nearest v d t
-some-nearest v d p = (
-  cond (ltb (v % d) (d - v % d)) (v / d) (cond (ltb (d - v % d) (v % d)) (v / d + 1) (v / d + v / d % 2)),
-  cond-ind (ltb (v % d) (d - v % d)) (v / d) (cond (ltb (d - v % d) (v % d)) (v / d + 1) (v / d + v / d % 2)) (Nearest v d)
-      (λ t. nearest-below v d p (ltb→lt (v % d) (d - v % d) t))
-      (λ t. cond-ind (ltb (d - v % d) (v % d)) (v / d + 1) (v / d + v / d % 2) (Nearest v d)
-      (λ s. nearest-above v d p (ltb→lt (d - v % d) (v % d) s))
-      (λ s. nearest-even v d p (N.le-antisymm (nltb→le (d - v % d) (v % d) s) (nltb→le (v % d) (d - v % d) t)))),
-)
+some-nearest v d p =
+    let rest = v % d in
+    let lacks = d - rest in (
+      cond (ltb rest lacks) (v / d) (otherwise v d),
+      cond-ind (ltb rest lacks) (v / d) (otherwise v d) (Nearest v d)
+          (λ less. nearest-below v d p (ltb→lt rest lacks less))
+          (λ not-less. cond-ind (ltb lacks rest) (v / d + 1) (v / d + v / d % 2) (Nearest v d)
+          (λ more. nearest-above v d p (ltb→lt lacks rest more))
+          (λ not-more. nearest-even v d p (N.le-antisymm (nltb→le lacks rest not-more) (nltb→le rest lacks not-less)))),
+    )
