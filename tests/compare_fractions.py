@@ -11,7 +11,7 @@ EDGES = [0, 1, 2, 3, 5, 99999, 100000, 100001, 200000, 184467440737095, 18446744
 
 
 def cases(seed=18459):
-    """Numerators and denominators: every pair of edges, then random ones of every size, then values that end in a half."""
+    """Numerators and denominators: every pair of edges, then random ones of every size, then values of which many end in a half, then the halves of C-12 and what is next to them."""
     for n in EDGES:
         for sign in (1, -1):
             for d in EDGES:
@@ -27,9 +27,9 @@ def cases(seed=18459):
             n, d = n * common, d * common
         yield n, d
     for _ in range(1000):
-        # an odd number of halves of a thousandth, or nearly one
+        # an odd number of halves of a thousandth in a third of them, and else thirds, sevenths and whole numbers
         yield 2 * make.randrange(2**20) + 1, 200000 * make.choice((1, 1, 3, 7)) // make.choice((1, 1, 2, 4, 5))
-    # the three halves that C-12 names, and their neighbours
+    # the three halves that C-12 names, and what is next to them
     for n in (1, 3, 5):
         for d in (199999, 200000, 200001):
             yield n, d

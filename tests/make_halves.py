@@ -1,6 +1,6 @@
 """Runs whose index, of each of the nine lines in turn, ends in half a thousandth of one percent: below an even whole number and below an odd one.
 
-The full-span output F and the width w are chosen first: the index is then 200,000 w/F halves of a thousandth, and w is such that this is the odd number wanted. A difference of h between the strokes on a full-span output of 200,000 is h halves."""
+The full-span output F and an odd number of halves are chosen first, then the width w that is so many of them: an index w/F is 200,000 w/F halves of a thousandth. A difference of h between the strokes on a full-span output of 200,000 is h halves. For repeatability and LHR a spread of the readings is looked for whose k gives such a width."""
 from second.sheet import FACTOR, NAMES, smallest_root
 
 # full-span outputs, and what an odd number of halves must be a multiple of, so that the width is whole

@@ -33,7 +33,7 @@ def lowest(num, den):
 
 
 def nearest(value):
-    """The whole number nearest to a value, and of two that are equally near the even one (GB/T 8170). Nothing else here rounds."""
+    """The whole number nearest to a value; of two that are equally near, the even one (GB/T 8170). No other function rounds a percent."""
     return min(floor(value), ceil(value), key=lambda whole: (abs(value - whole), whole % 2))
 
 

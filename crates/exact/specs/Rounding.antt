@@ -1,4 +1,4 @@
--- Thousandths of one percent, and the rule by which they are rounded (request C-12, after GB/T 8170: a half goes to the even neighbour). Definitions only.
+-- Thousandths of one percent (the paper, "Thousandths are the index in thousandths of one percent, rounded to the nearest whole"; request C-12, after GB/T 8170: a half goes to the even neighbour). Definitions only.
 use mathlib.Core.Path.{_≡_}
 use Prim.Native.Nat.{ℕ, _*_, _<_, _≤_, _∣_}
 use lib.IntN.{pos, natAbs, _-ℤ_}
@@ -7,11 +7,11 @@ use Rattle.exact.specs.declared.Fraction.{Fraction}
 use Rattle.exact.specs.declared.Percent.{Percent}
 use Rattle.exact.specs.declared.Percent.the-variants.{Thousandths, Untold}
 
--- how far the whole number t lies from v/d, in dths
+-- how far the whole number t lies from v/d, times d
 abbrev pub distance : (v d t : ℕ) → ℕ
 distance v d t = natAbs (pos v -ℤ pos (t * d))
 
--- t is a whole number nearest to v/d, and where another is equally near t is the even one
+-- t is a whole number nearest to v/d, and t is even where another is equally near
 pub record Nearest (v d t : ℕ) : Type 0 where
   pub some : 0 < d
   pub near : (u : ℕ) → distance v d t ≤ distance v d u

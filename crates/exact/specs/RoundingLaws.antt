@@ -1,5 +1,5 @@
--- Laws of the rule of rounding: some whole number always fits, and which one it is by the rest of v divided by d. That only one fits is in `Once`.
-use mathlib.Core.Path.{_≡_, ap, subst}
+-- Laws of the rule of rounding: some whole number always fits, and the rest of v divided by d tells which one. That only one fits is in `Once`.
+use mathlib.Core.Path.{_≡_, ap, _∙_, subst}
 use mathlib.Core.Bool.{cond}
 use mathlib.Core.Logic.{_⊎_, inl, inr, ⊎-elim}
 use Prim.Native.Nat.{ℕ, zero, suc, _+_, _*_, _-_, _/_, _%_, _<_, _≤_, _∣_}
@@ -21,13 +21,19 @@ distance-is v d t = size (pos v -ℤ pos (t * d)) v (t * d) (weighs (nat v ⊟ n
     size (pos n) p q h = omega arith
     size (negsuc n) p q h = omega arith
 
--- where a whole number u lies, far dths from v/d: it is one of the two neighbours of v/d, or a whole unit away at least
+-- where a whole number u lies whose distance from v/d is far/d: it is one of the two neighbours of v/d, or at least 1 away
 data Lies (v d u far : ℕ) : Type 0 where
   below : u ≡ v / d → far ≡ v % d → Lies v d u far
   above : u ≡ v / d + 1 → far ≡ d - v % d → Lies v d u far
   beyond : d ≤ far → Lies v d u far
 
 module _ (v d : ℕ) (p : 0 < d) where
+  at-whole : distance v d (v / d) ≡ v % d
+  at-whole = omega (arith, distance-is v d (v / d), N.div-add-mod' v d)
+
+  at-next : distance v d (v / d + 1) ≡ d - v % d
+  at-next = omega (arith, distance-is v d (v / d + 1), N.div-add-mod' v d, N.mod-lt v p)
+
   lies : (u : ℕ) → Lies v d u (distance v d u)
   lies u = lower (decLt u (v / d))
     where
@@ -41,8 +47,8 @@ module _ (v d : ℕ) (p : 0 < d) where
       small = N.mod-lt v p
 
       at : Dec (u ≡ v / d) → Dec (u ≡ v / d + 1) → v / d ≤ u → Lies v d u (distance v d u)
-      at (yes e) _ h = below e (omega (arith, far, is, ap (λ (t : ℕ). t * d) e))
-      at (no n) (yes e) h = above e (omega (arith, far, is, small, ap (λ (t : ℕ). t * d) e))
+      at (yes e) _ h = below e (ap (distance v d) e ∙ at-whole)
+      at (no n) (yes e) h = above e (ap (distance v d) e ∙ at-next)
       at (no n) (no m) h = let k : v / d + 2 ≤ u = omega arith in beyond (omega (arith, far, is, small, N.mul-le-mul-right d k))
 
       lower : Dec (u < v / d) → Lies v d u (distance v d u)
@@ -58,12 +64,6 @@ module _ (v d : ℕ) (p : 0 < d) where
       near (below _ f) = omega arith
       near (above _ f) = omega arith
       near (beyond f) = omega (arith, N.mod-lt v p)
-
-  at-whole : distance v d (v / d) ≡ v % d
-  at-whole = omega (arith, distance-is v d (v / d), N.div-add-mod' v d)
-
-  at-next : distance v d (v / d + 1) ≡ d - v % d
-  at-next = omega (arith, distance-is v d (v / d + 1), N.div-add-mod' v d, N.mod-lt v p)
 
   -- the rest is less than half of d, ...
   pub nearest-below : v % d < d - v % d → Nearest v d (v / d)
@@ -92,7 +92,7 @@ module _ (v d : ℕ) (p : 0 < d) where
 
       -- both neighbours are as far
       both : (k : ℕ) → k < 2 → distance v d (v / d + k) ≡ v % d
-      both zero l = omega (arith, distance-is v d (v / d + 0), N.div-add-mod' v d)
+      both zero l = ap (distance v d) (N.add-zero (v / d)) ∙ at-whole
       both (suc zero) l = omega (arith, at-next)
       both (suc (suc k)) l = absurd (omega arith)
 

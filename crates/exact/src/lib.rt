@@ -69,7 +69,7 @@ pub fn lowest(num: i64, den: u64) -> Fraction
     }
 }
 
-// The whole number nearest to v/d; of two that are equally near the even one. No other function rounds.
+// The whole number nearest to v/d; of two that are equally near, the even one. No other function rounds a percent.
 fn nearest(v: u64, d: u64) -> u64
     requires { ⌜ 0 < d ⌝ }
     ensures { λ r. ⌜ Nearest v d r ⌝ }
