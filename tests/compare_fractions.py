@@ -27,7 +27,7 @@ def cases(seed=18459):
             n, d = n * common, d * common
         yield n, d
     for _ in range(1000):
-        # an odd number of halves of a thousandth in a third of them, and else thirds, sevenths and whole numbers
+        # a third of them are halves of a thousandth, the others whole numbers, thirds, sixths, sevenths and fourteenths
         yield 2 * make.randrange(2**20) + 1, 200000 * make.choice((1, 1, 3, 7)) // make.choice((1, 1, 2, 4, 5))
     # the three halves that C-12 names, and what is next to them
     for n in (1, 3, 5):
@@ -43,13 +43,13 @@ def encode(num, den):
 NAMED_HALVES = {(1, 200000): 0, (3, 200000): 2, (5, 200000): 2}
 HALF = Fraction(1, 2)
 
-# Roundings that another reader might take. A negative fraction is never told, so that downwards and towards zero are one here; each is tried by its own rule all the same.
+# Roundings that another reader might take. A negative fraction is never told, so that downwards and towards zero are one here; each is tried by its own text all the same.
 WRONG_WAYS = {
     'down': floor,
     'up': ceil,
     'a half upwards': lambda value: floor(value + HALF),
     'a half downwards': lambda value: ceil(value - HALF),
-    'a half towards zero': lambda value: floor(abs(value) + HALF) - (abs(value) % 1 == HALF),
+    'a half towards zero': lambda value: floor(value) + (value % 1 > HALF),
     'a half to the odd': lambda value: floor(value) | 1 if value % 1 == HALF else round(value),
 }
 

@@ -243,30 +243,40 @@ def refusals_met(dues):
     return met
 
 
+def halves_on(due):
+    """The lines of a sheet whose percent was a half, each with the kind of whole number that the half lies below."""
+    met = {}
+    for name, index, *_ in (line.split(' ') for line in due.decode('ascii').split('\n') if '/' in line):
+        num, den = map(int, index.split('/'))
+        # an index is a half where it is an odd number of halves of a thousandth of one percent
+        halves, rest = divmod(200000 * num, den)
+        if name in NAMES and rest == 0 and halves % 2:
+            met[name] = 'even' if halves % 4 == 3 else 'odd'
+    return met
+
+
 def halves_met(dues):
-    """How many sheets have a percent that was a half, below an even whole number and below an odd one, and how often each line of a sheet was one."""
-    met = {'below an even': dict.fromkeys(('sheets',) + NAMES, 0), 'below an odd': dict.fromkeys(('sheets',) + NAMES, 0)}
-    for due in dues:
-        kinds = set()
-        for name, index, *_ in (line.split(' ') for line in due.decode('ascii').split('\n') if '/' in line and not line.startswith('line ')):
-            num, den = map(int, index.split('/'))
-            # halves of a thousandth of one percent: the index is a half where they are an odd number
-            halves, rest = divmod(200000 * num, den)
-            if rest == 0 and halves % 2:
-                kind = 'below an even' if halves % 4 == 3 else 'below an odd'
-                met[kind][name] += 1
-                kinds.add(kind)
-        for kind in kinds:
+    """How many sheets have a half of each kind, and how often each line of a sheet was one."""
+    met = {kind: dict.fromkeys(('sheets',) + NAMES, 0) for kind in ('even', 'odd')}
+    for found in map(halves_on, dues):
+        for name, kind in found.items():
+            met[kind][name] += 1
+        for kind in set(found.values()):
             met[kind]['sheets'] += 1
     return met
 
 
-def too_few_halves(met):
-    """Both ways of rounding a half are to be met on 200 sheets each, and on each of the nine lines."""
+def half_faults(files, dues, met):
+    """Both ways of rounding a half are to be met on 200 sheets each and on each of the nine lines, and a file that is named for its half has it."""
     for kind, counts in met.items():
         if counts['sheets'] < 200:
-            yield 'only %d sheets have a half %s' % (counts['sheets'], kind)
-        yield from ('no %s was a half %s' % (name, kind) for name in NAMES if not counts[name])
+            yield 'only %d sheets have a half below an %s' % (counts['sheets'], kind)
+        yield from ('no %s was a half below an %s' % (name, kind) for name in NAMES if not counts[name])
+    for (what, _), due in zip(files, dues):
+        if what.startswith('half of '):
+            _, _, name, _, kind, *_ = what.split(' ')
+            if halves_on(due).get(name) != kind:
+                yield 'the file %s has no such half' % what
 
 
 def numbers_met(benches):
@@ -367,10 +377,10 @@ def compare(run):
     met, per_index = made.met()
     wrong += missing(met, per_index)
     halves = halves_met(made.dues)
-    wrong += too_few_halves(halves)
+    wrong += half_faults(made.files, made.dues, halves)
     more, told = wrong_sheets.told_apart(made.files, made.dues)
     first = ['sheets: %d files, %d runs built by hand, %d files by the program itself' % (len(made.files), len(made.runs), len(chosen))]
     first += ['refusals met on sheets: ' + counts_text(met)]
     first += ['%s met: %s' % (name, counts_text(per_index[name])) for name in NAMES]
-    first += ['halves %s met on %d sheets: %s' % (kind, counts['sheets'], ', '.join('%s %d' % (name, counts[name]) for name in NAMES)) for kind, counts in halves.items()]
+    first += ['halves below an %s met on %d sheets: %s' % (kind, counts['sheets'], ', '.join('%s %d' % (name, counts[name]) for name in NAMES)) for kind, counts in halves.items()]
     return len(cases) + len(chosen), wrong + more, first + told

@@ -42,7 +42,7 @@ class Stage:
 
 
 def far_from_chord(stage, width):
-    """Terminal: the ends on the line, one point the width off, the others nearer."""
+    """Terminal: the ends on the line, one point the width off, and no other further."""
     by = stage.at_most(width)
     by[0] = by[-1] = 0
     by[stage.make.randrange(1, stage.m - 1)] = stage.make.choice((-width, width))

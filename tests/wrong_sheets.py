@@ -1,6 +1,6 @@
 """The readings of the paper and the Standard that go wrong, and idle programs, each as a method that differs from the right one in that alone, and the files that tell them apart."""
 from fractions import Fraction
-from math import ceil, floor, trunc
+from math import ceil, floor
 
 import compare_files
 import make_files
@@ -69,9 +69,9 @@ class HalfDownwards(Bench):
 
 class HalfTowardsZero(Bench):
     def thousandths(self, index):
-        """Of the whole part and its neighbour away from zero the second only where it is nearer. No index is negative, so that this is a half downwards."""
+        """One more than the whole part only where the rest is more than a half. No index is negative, so that this is a half downwards by another text."""
         value = index * 100000
-        return trunc(value) + (abs(value) % 1 > HALF)
+        return floor(value) + (value % 1 > HALF)
 
 
 class HalfToOdd(Bench):
