@@ -232,13 +232,19 @@ def named_files(files):
     return {name.split(', shuffled')[0]: which for which, (name, _) in reversed(list(enumerate(files)))}
 
 
+def refusals_on(due):
+    """The refusals of one sheet: 1 to 10 as the only line, 11 to 13 and 15 in the line of an index. 14 is the writer's."""
+    fields = [line.split(' ') for line in due.decode('ascii').split('\n')[:-1]]
+    if fields[0][0] == 'refused':
+        return {int(fields[0][1])}
+    return {int(line[2]) for line in fields if line[0] in NAMES and line[1] == 'refused'}
+
+
 def refusals_met(dues):
-    """How many sheets had each refusal: 1 to 10 as the only line, 11 to 13 and 15 in the line of an index. 14 is the writer's."""
+    """How many sheets had each refusal."""
     met = dict.fromkeys((*range(1, 14), 15), 0)
     for due in dues:
-        fields = [line.split(' ') for line in due.decode('ascii').split('\n')[:-1]]
-        indices = {int(line[2]) for line in fields if line[0] in NAMES and line[1] == 'refused'}
-        for number in {int(fields[0][1])} if fields[0][0] == 'refused' else indices:
+        for number in refusals_on(due):
             met[number] += 1
     return met
 

@@ -1,80 +1,83 @@
-// What the reader, the writer and the sheet give, printed.
-use libc::STDOUT_FILENO;
+// What the reader, the writer and the sheet give, put on a page.
 use run::Run;
+use trial::Page;
+use units::Input;
+use units::Reading;
 
-pub fn print_pair(a: u64, b: u64) {
-    trial::print_count(a);
-    trial::print_space();
-    trial::print_count(b);
+pub fn put_pair(page: &mut Page, at: &mut usize, a: u64, b: u64) {
+    trial::put_space(page, at);
+    trial::put_count(page, at, a);
+    trial::put_space(page, at);
+    trial::put_count(page, at, b);
 }
 
-// A run's inputs, and behind them its readings.
-fn count_at(r: Run, i: usize) -> i64 {
-    if i < 11 {
-        let v = r.x[i];
-        return v.count;
-    }
-    if i < 231 {
-        let v = r.y[i - 11];
-        return v.count;
-    }
-    0
-}
-
-fn print_counts(r: Run, from: usize, to: usize) {
-    let mut i = from;
-    while i < to {
-        trial::print_space();
-        trial::print_signed(count_at(r, i));
+fn put_inputs(page: &mut Page, at: &mut usize, x: [Input; 11]) {
+    let mut i = 0;
+    while i < 11 {
+        let v = x[i];
+        trial::put_space(page, at);
+        trial::put_signed(page, at, v.count);
         i += 1;
     }
-    trial::print_line_end();
 }
 
-fn print_run(r: Run) {
-    io::write_all(STDOUT_FILENO, b"run ");
-    print_pair(r.m as u64, r.n as u64);
-    io::write_all(STDOUT_FILENO, b"\nx");
-    print_counts(r, 0, 11);
-    io::write_all(STDOUT_FILENO, b"y");
-    print_counts(r, 11, 231);
-}
-
-pub fn print_write(r: Run, out: &mut [u8]) {
-    let w = writer::write(r, out);
-    io::write_all(STDOUT_FILENO, b"write ");
-    print_pair(w.number as u64, w.place as u64);
-    trial::print_space();
-    trial::print_count(w.len as u64);
-    trial::print_line_end();
-    trial::print_bytes(out);
-}
-
-fn print_read(s: &[u8], out: &mut [u8]) {
-    let a = reader::read(s);
-    io::write_all(STDOUT_FILENO, b"read ");
-    print_pair(a.number as u64, a.place as u64);
-    trial::print_line_end();
-    let r = a.run;
-    print_run(r);
-    if a.number == 0 {
-        print_write(r, out);
+fn put_readings(page: &mut Page, at: &mut usize, y: [Reading; 220]) {
+    let mut i = 0;
+    while i < 220 {
+        let v = y[i];
+        trial::put_space(page, at);
+        trial::put_signed(page, at, v.count);
+        i += 1;
     }
 }
 
-fn print_sheet(s: &[u8], out: &mut [u8]) {
+fn put_run(page: &mut Page, at: &mut usize, r: Run) {
+    trial::put_bytes(page, at, b"run");
+    put_pair(page, at, r.m as u64, r.n as u64);
+    let x = r.x;
+    trial::put_bytes(page, at, b"\nx");
+    put_inputs(page, at, x);
+    let y = r.y;
+    trial::put_bytes(page, at, b"\ny");
+    put_readings(page, at, y);
+    trial::put_line_end(page, at);
+}
+
+pub fn put_write(page: &mut Page, at: &mut usize, r: Run, out: &mut [u8]) {
+    let w = writer::write(r, out);
+    trial::put_bytes(page, at, b"write");
+    put_pair(page, at, w.number as u64, w.place as u64);
+    trial::put_space(page, at);
+    trial::put_count(page, at, w.len as u64);
+    trial::put_line_end(page, at);
+    trial::put_hex(page, at, out);
+}
+
+fn put_read(page: &mut Page, at: &mut usize, s: &[u8], out: &mut [u8]) {
+    let a = reader::read(s);
+    trial::put_bytes(page, at, b"read");
+    put_pair(page, at, a.number as u64, a.place as u64);
+    trial::put_line_end(page, at);
+    let r = a.run;
+    put_run(page, at, r);
+    if a.number == 0 {
+        put_write(page, at, r, out);
+    }
+}
+
+fn put_sheet(page: &mut Page, at: &mut usize, s: &[u8], out: &mut [u8]) {
     let q = sheet_text::sheet(s, out);
-    io::write_all(STDOUT_FILENO, b"sheet ");
-    print_pair(q.number as u64, q.len as u64);
-    trial::print_line_end();
-    trial::print_bytes(out);
+    trial::put_bytes(page, at, b"sheet");
+    put_pair(page, at, q.number as u64, q.len as u64);
+    trial::put_line_end(page, at);
+    trial::put_hex(page, at, out);
 }
 
 // The reader's answer where the kind is 0, else the sheet.
-pub fn print_file(kind: u64, s: &[u8], out: &mut [u8]) {
+pub fn put_file(page: &mut Page, at: &mut usize, kind: u64, s: &[u8], out: &mut [u8]) {
     if kind == 0 {
-        print_read(s, out);
+        put_read(page, at, s, out);
     } else {
-        print_sheet(s, out);
+        put_sheet(page, at, s, out);
     }
 }

@@ -12,6 +12,7 @@ mod runs;
 use libc::STDIN_FILENO;
 use run::Run;
 use trial::Next;
+use trial::Page;
 
 // More requests than this are not read: a loop has to end.
 const MOST: u32 = 1000000;
@@ -24,7 +25,7 @@ fn next_run() -> Run {
     Run { m, n, x, y }
 }
 
-fn answer_file(kind: u64, out: &mut [u8]) -> bool {
+fn answer_file(page: &mut Page, at: &mut usize, kind: u64, out: &mut [u8]) -> bool {
     let len = trial::next_or_zero();
     if 4096 < len {
         return false;
@@ -32,20 +33,33 @@ fn answer_file(kind: u64, out: &mut [u8]) -> bool {
     let mut b = io::buffer();
     let n = io::read_full(STDIN_FILENO, &mut b[..len as usize]);
     if n <= 4096 {
-        files::print_file(kind, &b[..n], out);
+        files::put_file(page, at, kind, &b[..n], out);
     }
     true
 }
 
-fn answer_into(kind: u64, out: &mut [u8]) -> bool {
+fn answer_into(page: &mut Page, at: &mut usize, kind: u64, out: &mut [u8]) -> bool {
     match kind {
-        0 | 2 => answer_file(kind, out),
+        0 | 2 => answer_file(page, at, kind, out),
         1 => {
-            files::print_write(next_run(), out);
+            files::put_write(page, at, next_run(), out);
             true
         }
         _ => false,
     }
+}
+
+fn answer_kind(page: &mut Page, at: &mut usize, kind: u64) -> bool {
+    let room = trial::next_or_zero();
+    if kind == 3 {
+        runs::put_figures(page, at, next_run());
+        return true;
+    }
+    if 2048 < room {
+        return false;
+    }
+    let mut out = trial::background();
+    answer_into(page, at, kind, &mut out[..room as usize])
 }
 
 // Answers one request; false where none is left, and where one is beyond its limits.
@@ -53,16 +67,11 @@ fn answer() -> bool {
     let Next::Word(kind) = trial::read_word() else {
         return false;
     };
-    let room = trial::next_or_zero();
-    if kind == 3 {
-        runs::print_figures(next_run());
-        return true;
-    }
-    if 2048 < room {
-        return false;
-    }
-    let mut out = trial::background();
-    answer_into(kind, &mut out[..room as usize])
+    let mut page = trial::empty_page();
+    let mut at = 0;
+    let more = answer_kind(&mut page, &mut at, kind);
+    trial::print_page(&page, at);
+    more
 }
 
 fn main() {

@@ -1,74 +1,80 @@
-// The averages and the indices of a run, printed.
-use crate::files::print_pair;
+// The averages and the indices of a run, put on a page.
+use crate::files::put_pair;
 use exact::Fraction;
 use indices::Answer;
 use indices::Index;
-use libc::STDOUT_FILENO;
 use run::Run;
+use trial::Page;
 
-fn print_spaced(f: Fraction) {
-    trial::print_space();
-    trial::print_fraction(f);
+fn put_spaced(page: &mut Page, at: &mut usize, f: Fraction) {
+    trial::put_space(page, at);
+    trial::put_fraction(page, at, f);
 }
 
-fn print_means(l: [Fraction; 11]) {
+fn put_means(page: &mut Page, at: &mut usize, l: [Fraction; 11]) {
     let mut i = 0;
     while i < 11 {
-        print_spaced(l[i]);
+        put_spaced(page, at, l[i]);
         i += 1;
     }
-    trial::print_line_end();
+    trial::put_line_end(page, at);
 }
 
-fn print_averages(r: Run) {
+fn put_averages(page: &mut Page, at: &mut usize, r: Run) {
     let a = averages::averages_of(r);
-    io::write_all(STDOUT_FILENO, b"averages ");
-    print_pair(a.number as u64, a.place as u64);
+    trial::put_bytes(page, at, b"averages");
+    put_pair(page, at, a.number as u64, a.place as u64);
     let up = a.up;
-    io::write_all(STDOUT_FILENO, b"\nup");
-    print_means(up);
+    trial::put_bytes(page, at, b"\nup");
+    put_means(page, at, up);
     let down = a.down;
-    io::write_all(STDOUT_FILENO, b"down");
-    print_means(down);
+    trial::put_bytes(page, at, b"down");
+    put_means(page, at, down);
     let both = a.both;
-    io::write_all(STDOUT_FILENO, b"both");
-    print_means(both);
+    trial::put_bytes(page, at, b"both");
+    put_means(page, at, both);
 }
 
-fn print_answer(a: Answer) {
-    trial::print_space();
-    print_pair(a.number as u64, a.place as u64);
-    print_spaced(a.width);
-    print_spaced(a.slope);
-    print_spaced(a.offset);
-    print_spaced(a.index);
-    trial::print_space();
-    trial::print_count(a.thousandths);
-    trial::print_line_end();
+fn put_answer(page: &mut Page, at: &mut usize, name: &[u8], a: Answer) {
+    trial::put_bytes(page, at, name);
+    put_pair(page, at, a.number as u64, a.place as u64);
+    put_spaced(page, at, a.width);
+    put_spaced(page, at, a.slope);
+    put_spaced(page, at, a.offset);
+    put_spaced(page, at, a.index);
+    trial::put_space(page, at);
+    trial::put_count(page, at, a.thousandths);
+    trial::put_line_end(page, at);
 }
 
-fn print_indices(r: Run) {
-    io::write_all(STDOUT_FILENO, b"terminal");
-    print_answer(indices::index_of(Index::Terminal, r));
-    io::write_all(STDOUT_FILENO, b"shifted");
-    print_answer(indices::index_of(Index::Shifted, r));
-    io::write_all(STDOUT_FILENO, b"independent");
-    print_answer(indices::index_of(Index::Independent, r));
-    io::write_all(STDOUT_FILENO, b"zero");
-    print_answer(indices::index_of(Index::Zero, r));
-    io::write_all(STDOUT_FILENO, b"front");
-    print_answer(indices::index_of(Index::Front, r));
-    io::write_all(STDOUT_FILENO, b"hysteresis");
-    print_answer(indices::index_of(Index::Hysteresis, r));
-    io::write_all(STDOUT_FILENO, b"repeatability");
-    print_answer(indices::index_of(Index::Repeatability, r));
-    io::write_all(STDOUT_FILENO, b"lh");
-    print_answer(indices::index_of(Index::Lh, r));
-    io::write_all(STDOUT_FILENO, b"lhr");
-    print_answer(indices::index_of(Index::Lhr, r));
+fn put_indices(page: &mut Page, at: &mut usize, r: Run) {
+    put_answer(page, at, b"terminal", indices::index_of(Index::Terminal, r));
+    put_answer(page, at, b"shifted", indices::index_of(Index::Shifted, r));
+    put_answer(
+        page,
+        at,
+        b"independent",
+        indices::index_of(Index::Independent, r),
+    );
+    put_answer(page, at, b"zero", indices::index_of(Index::Zero, r));
+    put_answer(page, at, b"front", indices::index_of(Index::Front, r));
+    put_answer(
+        page,
+        at,
+        b"hysteresis",
+        indices::index_of(Index::Hysteresis, r),
+    );
+    put_answer(
+        page,
+        at,
+        b"repeatability",
+        indices::index_of(Index::Repeatability, r),
+    );
+    put_answer(page, at, b"lh", indices::index_of(Index::Lh, r));
+    put_answer(page, at, b"lhr", indices::index_of(Index::Lhr, r));
 }
 
-pub fn print_figures(r: Run) {
-    print_averages(r);
-    print_indices(r);
+pub fn put_figures(page: &mut Page, at: &mut usize, r: Run) {
+    put_averages(page, at, r);
+    put_indices(page, at, r);
 }

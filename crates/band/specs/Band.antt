@@ -1,35 +1,25 @@
--- Bands: the points that a band stands for, and the bands that are admitted. Definitions only.
+-- The points that lent counts stand for, and the points that are admitted. Definitions only.
+use mathlib.Core.List.{List}
 use Prim.Native.Nat.{ℕ, _<_, _≤_}
-use lib.IntN.{natAbs}
+use lib.IntN.{ℤ, pos, natAbs}
 use lib.ListN.{getD}
-pub use Rattle.units.specs.Units.{no-input, no-sum}
-use Rattle.band.specs.Line.{Points, Proper, OneValue}
-use Rattle.band.specs.declared.Band.{Band}
+pub use Rattle.units.specs.Units.{most-x, most-v}
+use Rattle.band.specs.Line.{Points, Proper}
 
--- the points of a band
-abbrev pub points : Band → Points
-points g = record { m = g .m; d = g .d; x = λ i. getD (g .x) i no-input .count; low = λ i. getD (g .low) i no-sum .count; high = λ i. getD (g .high) i no-sum .count }
+-- the points that lent counts stand for: m inputs, and at each a lowest and a highest value in units of 1/d
+abbrev pub lent : (m d : ℕ) → (x low high : List ℤ) → Points
+lent m d x low high = record { m = m; d = d; x = λ i. getD x i (pos 0); low = λ i. getD low i (pos 0); high = λ i. getD high i (pos 0) }
 
--- largest sizes: of an input, of a value (also where values count tenths), and of the unit
-abbrev pub most-x : ℕ
-most-x = 30000
-
-abbrev pub most-v : ℕ
-most-v = 103000000
-
+-- the largest unit
 abbrev pub most-d : ℕ
 most-d = 200
 
 -- 3 to 11 inputs that rise, no lowest value above a highest, nothing beyond the largest sizes
-pub record Admitted (g : Band) : Type 0 where
-  pub proper : Proper (points g)
-  pub three : 3 ≤ g .m
-  pub eleven : g .m ≤ 11
-  pub unit : g .d ≤ most-d
-  pub inputs : (i : ℕ) → i < g .m → natAbs (points g .x i) ≤ most-x
-  pub lows : (i : ℕ) → i < g .m → natAbs (points g .low i) ≤ most-v
-  pub highs : (i : ℕ) → i < g .m → natAbs (points g .high i) ≤ most-v
-
--- one value at each input
-abbrev pub Level : Band → Type 0
-Level g = OneValue (points g)
+pub record Admitted (P : Points) : Type 0 where
+  pub proper : Proper P
+  pub three : 3 ≤ P .m
+  pub eleven : P .m ≤ 11
+  pub unit : P .d ≤ most-d
+  pub inputs : (i : ℕ) → i < P .m → natAbs (P .x i) ≤ most-x
+  pub lows : (i : ℕ) → i < P .m → natAbs (P .low i) ≤ most-v
+  pub highs : (i : ℕ) → i < P .m → natAbs (P .high i) ≤ most-v

@@ -1,3 +1,4 @@
 pub mod Through
 pub mod Parts
 pub mod BandLaws
+pub mod Lent

@@ -34,7 +34,3 @@ pub record SamePoints (P R : Points) : Type 0 where
 abbrev pub width-at : Width → Run → ℕ → ℕ
 width-at widths.Swing r = swing r
 width-at widths.Scatter r = scatter (limit r)
-
-abbrev pub Measured : Width → Run → Type 0
-Measured widths.Swing r = Unit {0}
-Measured widths.Scatter r = 2 ≤ r .n

@@ -6,7 +6,7 @@ use Rattle.run.specs.Run.{input}
 use Rattle.run.specs.declared.Run.{Run}
 use Rattle.groups.specs.Sums.{up-sum, down-sum, both-sum}
 use Rattle.band.specs.Line.{Points}
-use Rattle.fit.specs.Greater.{smaller, greater}
+use Rattle.whole.specs.Greater.{smaller, greater}
 
 -- T/(2n) at each input
 abbrev pub means : Run → Points

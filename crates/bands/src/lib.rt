@@ -1,19 +1,19 @@
-// The bands that the lines of a run are drawn through, and the widths that are no line's.
+// The values that the lines of a run are drawn past, and the widths that are no line's, of its sums and limits.
+ghost use mathlib.Core.List.{_∷_, []};
 ghost use mathlib.Core.Path.{_≡_};
-ghost use Prim.Native.Nat.{_<_, _≤_};
-ghost use lib.IntN.{pos, natAbs, _-ℤ_};
+ghost use Prim.Native.Nat.{_<_};
+ghost use lib.IntN.{pos, natAbs, _+ℤ_, _-ℤ_};
+ghost use lib.ListN.{length};
 ghost use lib.Signed.{_≤ℤ_};
-ghost use Rattle.run.specs.Checked.{Checked};
-ghost use Rattle.fit.specs.Greater.{smaller, greater};
-ghost use Rattle.band.specs.Band.{points};
+ghost use Rattle.whole.specs.Filled.{Filled};
+ghost use Rattle.whole.specs.Greater.{smaller, greater};
+ghost use Rattle.whole.specs.Machine.{Bounds};
+ghost use Rattle.units.specs.Units.{most-s};
 ghost use Rattle.bands.specs.Through.{LargestOf};
-ghost use Rattle.bands.specs.Parts.{through, Cycles, SamePoints, width-at, Measured};
-use band::Band;
-use groups::limit_of;
-use groups::plus;
-use groups::sum_of;
-use run::Run;
+ghost use Rattle.bands.specs.Lent.{mean-in, low-in, high-in, width-in, apart, Addable, Measurable, Wide};
+use units::Part;
 use units::Sum;
+use units::sum_at;
 
 // T; U and D; U less its limit and D more its limit.
 pub enum Through {
@@ -28,135 +28,92 @@ pub enum Width {
     Scatter,
 }
 
-// The values at an input.
-struct Values {
-    low: Sum,
-    high: Sum,
-}
-
-fn in_order(a: Sum, b: Sum) -> Values
-    ensures low { λ v. ⌜ v .low .count ≡ smaller (a .count) (b .count) ⌝ }
-    ensures high { λ v. ⌜ v .high .count ≡ greater (a .count) (b .count) ⌝ }
+// T at each point: the means of both strokes.
+pub fn means_of(m: usize, up: &[i64; 11], down: &[i64; 11], means: &mut [i64; 11])
+    requires { ⌜ Addable m (now up) × Addable m (now down) × (length (now means) ≡ 11) ⌝ }
+    ensures { λ _. ⌜ Filled (mean-in (now (up .entry)) (now (down .entry))) m (now (means .exit)) ⌝ }
 {
-    let p = a.count;
-    let q = b.count;
-    if p < q {
-        Values { low: a, high: b }
-    } else {
-        Values { low: b, high: a }
-    }
-}
-
-fn minus(a: Sum, b: Sum) -> Sum
-    requires { ⌜ (natAbs (a .count) ≤ 20000000) × (natAbs (b .count) ≤ 20000000) ⌝ }
-    ensures { λ s. ⌜ s .count ≡ a .count -ℤ b .count ⌝ }
-{
-    let p = a.count;
-    let q = b.count;
-    Sum { count: p - q }
-}
-
-fn values_at(t: Through, r: Run, i: usize) -> Values
-    requires { ⌜ Checked r × Cycles t r × (i < r .m) ⌝ }
-    ensures low { λ v. ⌜ v .low .count ≡ through t r .low i ⌝ }
-    ensures high { λ v. ⌜ v .high .count ≡ through t r .high i ⌝ }
-{
-    let up = sum_of(r, 0, i);
-    let down = sum_of(r, 1, i);
-    match t {
-        Through::Means => {
-            let both = plus(up, down);
-            Values {
-                low: both,
-                high: both,
-            }
-        }
-        Through::Strokes => in_order(up, down),
-        Through::Limits => in_order(minus(up, limit_of(r, 0, i)), plus(down, limit_of(r, 1, i))),
-    }
-}
-
-// Means are counted in units of 1/(2n), all else of 1/n.
-fn unit_of(t: Through, r: Run) -> u64
-    requires { ⌜ r .n ≤ 10 ⌝ }
-    ensures { λ d. ⌜ d ≡ through t r .d ⌝ }
-{
-    let n = r.n as u64;
-    match t {
-        Through::Means => 2 * n,
-        Through::Strokes => n,
-        Through::Limits => n,
-    }
-}
-
-pub fn band_of(t: Through, r: Run) -> Band
-    requires { ⌜ Checked r × Cycles t r ⌝ }
-    ensures { λ g. ⌜ SamePoints (points g) (through t r) ⌝ }
-{
-    let m = r.m;
-    let mut low = [Sum { count: 0 }; 11];
-    let mut high = [Sum { count: 0 }; 11];
     let mut i = 0;
     while i < m {
-        let v = values_at(t, r, i);
-        let l = v.low;
-        let h = v.high;
+        let mean = units::mean_of(sum_at(up, i), sum_at(down, i));
+        let count = mean.count;
+        means[i] = count;
+        i += 1;
+    }
+}
+
+// The values at a point.
+struct Values {
+    low: Part,
+    high: Part,
+}
+
+// U less its limit and D more its limit, the lower one first.
+fn values_of(up: Sum, down: Sum, up_limit: Sum, down_limit: Sum) -> Values
+    requires { ⌜ Bounds (up .count ∷ down .count ∷ «up_limit» .count ∷ «down_limit» .count ∷ []) (most-s ∷ most-s ∷ most-s ∷ most-s ∷ []) ⌝ }
+    ensures low { λ v. ⌜ v .low .count ≡ smaller (up .count -ℤ «up_limit» .count) (down .count +ℤ «down_limit» .count) ⌝ }
+    ensures high { λ v. ⌜ v .high .count ≡ greater (up .count -ℤ «up_limit» .count) (down .count +ℤ «down_limit» .count) ⌝ }
+{
+    let a = units::minus(up, up_limit);
+    let b = units::plus(down, down_limit);
+    Values {
+        low: units::part_of(units::lesser(a, b)),
+        high: units::part_of(units::larger(a, b)),
+    }
+}
+
+// The values at each point. Limits of zero leave U and D.
+pub fn pairs_of(
+    m: usize,
+    up: &[i64; 11],
+    down: &[i64; 11],
+    up_limits: &[i64; 11],
+    down_limits: &[i64; 11],
+    low: &mut [i64; 11],
+    high: &mut [i64; 11],
+)
+    requires { ⌜ Addable m (now up) × Addable m (now down) × Addable m (now «up_limits») × Addable m (now «down_limits») × (length (now low) ≡ 11) × (length (now high) ≡ 11) ⌝ }
+    ensures lows { λ _. ⌜ Filled (low-in (now (up .entry)) (now (down .entry)) (now («up_limits» .entry)) (now («down_limits» .entry))) m (now (low .exit)) ⌝ }
+    ensures highs { λ _. ⌜ Filled (high-in (now (up .entry)) (now (down .entry)) (now («up_limits» .entry)) (now («down_limits» .entry))) m (now (high .exit)) ⌝ }
+{
+    let mut i = 0;
+    while i < m {
+        let v = values_of(
+            sum_at(up, i),
+            sum_at(down, i),
+            sum_at(up_limits, i),
+            sum_at(down_limits, i),
+        );
+        let lower = v.low;
+        let higher = v.high;
+        let l = lower.count;
+        let h = higher.count;
         low[i] = l;
         high[i] = h;
         i += 1;
     }
-    let x = r.x;
-    Band {
-        m,
-        d: unit_of(t, r),
-        x,
-        low,
-        high,
-    }
 }
 
-// How far two sums lie apart.
-fn distance(a: Sum, b: Sum) -> Sum
-    requires { ⌜ (natAbs (a .count) ≤ 20000000) × (natAbs (b .count) ≤ 20000000) ⌝ }
-    ensures { λ s. ⌜ s .count ≡ pos (natAbs (a .count -ℤ b .count)) ⌝ }
-{
-    let p = a.count;
-    let q = b.count;
-    if p < q {
-        Sum { count: q - p }
-    } else {
-        Sum { count: p - q }
-    }
-}
-
-fn larger(a: Sum, b: Sum) -> Sum
-    ensures { λ s. ⌜ s .count ≡ greater (a .count) (b .count) ⌝ }
-{
-    let v = in_order(a, b);
-    v.high
-}
-
-fn width_of(w: Width, r: Run, i: usize) -> Sum
-    requires { ⌜ Checked r × Measured w r × (i < r .m) ⌝ }
-    ensures { λ s. ⌜ s .count ≡ pos (width-at w r i) ⌝ }
+fn width_of(w: Width, a: Sum, b: Sum) -> Sum
+    requires { ⌜ Measurable w (a .count) (b .count) ⌝ }
+    ensures { λ s. ⌜ s .count ≡ pos (apart w (a .count) (b .count)) ⌝ }
 {
     match w {
-        Width::Swing => distance(sum_of(r, 1, i), sum_of(r, 0, i)),
-        Width::Scatter => larger(limit_of(r, 0, i), limit_of(r, 1, i)),
+        Width::Swing => units::distance(b, a),
+        Width::Scatter => units::larger(a, b),
     }
 }
 
-// The largest width over the points.
-pub fn widest(w: Width, r: Run) -> Sum
-    requires { ⌜ Checked r × Measured w r ⌝ }
+// The largest width over the points: of D from U, or of the limits of both strokes.
+pub fn widest(w: Width, m: usize, up: &[i64; 11], down: &[i64; 11]) -> Sum
+    requires { ⌜ Wide w m (now up) (now down) ⌝ }
     ensures sign { λ s. ⌜ pos 0 ≤ℤ s .count ⌝ }
-    ensures largest { λ s. ⌜ LargestOf (r .m) (width-at w r) (natAbs (s .count)) ⌝ }
+    ensures largest { λ s. ⌜ LargestOf m (width-in w (now (up .entry)) (now (down .entry))) (natAbs (s .count)) ⌝ }
 {
-    let m = r.m;
-    let mut s = width_of(w, r, 0);
+    let mut s = width_of(w, sum_at(up, 0), sum_at(down, 0));
     let mut i = 1;
     while i < m {
-        s = larger(s, width_of(w, r, i));
+        s = units::larger(s, width_of(w, sum_at(up, i), sum_at(down, i)));
         i += 1;
     }
     s

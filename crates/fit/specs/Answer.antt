@@ -1,11 +1,10 @@
--- What a function of this crate answers: which line, or which width, is due for a band. Definitions only.
+-- What a function of this crate answers: which line, or which width, is due for points. Definitions only.
 use Prim.Native.Nat.{_*_, _<_, _≤_}
 use lib.IntN.{pos, natAbs}
 use lib.Signed.{_≤ℤ_}
 use Rattle.exact.specs.Value.{Made}
-use Rattle.band.specs.Line.{Line, Points, Within, Largest, All, Parallel, Least, Single, Several, Terminal}
-use Rattle.band.specs.Band.{points, Admitted, Level}
-use Rattle.band.specs.declared.Band.{Band}
+use Rattle.band.specs.Line.{Line, Points, OneValue, Within, Largest, All, Parallel, Least, Single, Several, Terminal}
+use Rattle.band.specs.Band.{Admitted}
 use Rattle.fit.specs.declared.Fit.{Fit}
 use Rattle.fit.specs.declared.Wide.{Wide}
 use Rattle.fit.specs.declared.Drawn.{Drawn}
@@ -46,10 +45,10 @@ pub record OnlyWidth (F : Line → Type 0) (P : Points) (h : Wide) : Type 0 wher
   pub several : Several F P (natAbs (h .w)) (h .q)
 
 -- the line of least largest deviation (2.3.5.6)
-abbrev pub BestDue : Band → Drawn → Type 0
-BestDue g (drawn.Line f) = Admitted g × TheLine All (points g) f
-BestDue g (drawn.Several h) = Admitted g × OnlyWidth All (points g) h
-BestDue g drawn.Improper = Admitted g → ⊥
+abbrev pub BestDue : Points → Drawn → Type 0
+BestDue P (drawn.Line f) = Admitted P × TheLine All P f
+BestDue P (drawn.Several h) = Admitted P × OnlyWidth All P h
+BestDue P drawn.Improper = Admitted P → ⊥
 
 -- the terminal line (2.3.5.2) with its largest deviation
 pub record TheTerminal (P : Points) (f : Fit) : Type 0 where
@@ -57,13 +56,16 @@ pub record TheTerminal (P : Points) (f : Fit) : Type 0 where
   pub ends : Terminal P (line-of f (told .some))
   pub largest : Largest P (line-of f (told .some)) (natAbs (f .w)) (f .q)
 
-abbrev pub TerminalDue : Band → Drawn → Type 0
-TerminalDue g (drawn.Line f) = Admitted g × Level g × TheTerminal (points g) f
-TerminalDue g (drawn.Several h) = ⊥
-TerminalDue g drawn.Improper = Admitted g → Level g → ⊥
+abbrev pub TerminalDue : Points → Drawn → Type 0
+TerminalDue P (drawn.Line f) = Admitted P × OneValue P × TheTerminal P f
+TerminalDue P (drawn.Several h) = ⊥
+TerminalDue P drawn.Improper = Admitted P → OneValue P → ⊥
 
 -- the shifted terminal line (A2.2.1.1): of the lines of the terminal line's slope the one whose largest deviation is least
-abbrev pub ShiftedDue : Band → Drawn → Type 0
-ShiftedDue g (drawn.Line f) = Admitted g × Level g × ((T : Line) → Terminal (points g) T → TheLine (Parallel T) (points g) f)
-ShiftedDue g (drawn.Several h) = ⊥
-ShiftedDue g drawn.Improper = Admitted g → Level g → ⊥
+pub record TheShifted (P : Points) (f : Fit) : Type 0 where
+  pub line : (T : Line) → Terminal P T → TheLine (Parallel T) P f
+
+abbrev pub ShiftedDue : Points → Drawn → Type 0
+ShiftedDue P (drawn.Line f) = Admitted P × OneValue P × TheShifted P f
+ShiftedDue P (drawn.Several h) = ⊥
+ShiftedDue P drawn.Improper = Admitted P → OneValue P → ⊥

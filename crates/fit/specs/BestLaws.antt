@@ -16,12 +16,12 @@ use Rattle.band.specs.Triple.{up-line, up-within, up-single, down-line, down-wi
 use Rattle.band.specs.Pair.{pair-line, pair-some, pair-within, pair-single}
 use Rattle.band.specs.Middle.{several}
 use Rattle.band.specs.Least.{least}
-use Rattle.band.specs.Band.{points, most-x, Admitted}
+use Rattle.band.specs.Band.{most-x, Admitted}
 use Rattle.fit.specs.Answer.{TheLine, OnlyWidth}
-use Rattle.fit.specs.Parts.{FitParts, Chosen, PairParts, WideParts}
+use Rattle.fit.specs.Parts.{Chosen, OverHigh, OverLow, PairParts, WideParts}
 use Rattle.fit.specs.Scaled.{Alike, unit-most, alike-written, least-alike, several-alike, the-line}
-use Rattle.band.specs.declared.Band.{Band}
-use Rattle.search.specs.Search.{shown, BestOf}
+use Rattle.search.specs.Search.{shown}
+use Rattle.search.specs.Over as O
 use Rattle.search.specs.SearchSize.{num-size, top-size}
 use Rattle.search.specs.SearchLaws.{found}
 use Rattle.search.specs.declared.Candidate as S
@@ -37,12 +37,12 @@ Near P = (i k : ℕ) → i < P .m → k < P .m → natAbs (P .x k -ℤ P .x i) �
 told-part : (z : ℤ) (q d : ℕ) → pos q ≡ pos 2 *ℤ z *ℤ pos d → q ≡ 2 * natAbs z * d
 told-part z q d e = ap natAbs e ∙ size-product (pos 2 *ℤ z) (pos d) ∙ ap (λ (n : ℕ). n * d) (size-product (pos 2) z)
 
--- two inputs of an admitted band are at most 60,000 apart
-pub near : {g : Band} → Admitted g → Near (points g)
-near {g} a i k h j = size-sub (points g .x k) (points g .x i) most-x most-x (a .inputs k j) (a .inputs i h)
+-- two admitted inputs are at most 60,000 apart
+pub near : {P : Points} → Admitted P → Near P
+near {P} a i k h j = size-sub (P .x k) (P .x i) most-x most-x (a .inputs k j) (a .inputs i h)
 
 module _ {P : Points} (proper : Proper P) (close : Near P) {f : Fit} where
-  pub up-best : (i j k : ℕ) → Greatest P (up i j k) → (n : ℤ) → n ≡ num P (up i j k) → FitParts (pos 2 *ℤ (P .high k -ℤ P .high i)) (pos 2 *ℤ (P .x k *ℤ P .high i -ℤ P .x i *ℤ P .high k) -ℤ n) (pos 2 *ℤ (P .x k -ℤ P .x i) *ℤ pos (P .d)) n f → TheLine All P f
+  pub up-best : (i j k : ℕ) → Greatest P (up i j k) → (n : ℤ) → n ≡ num P (up i j k) → OverHigh P i k n f → TheLine All P f
   up-best i j k g n e p =
       let some = part-some proper (up i j k) (g .fits) in
       let q = told-part (P .x k -ℤ P .x i) (f .q) (P .d) (p .q-is) in
@@ -50,7 +50,7 @@ module _ {P : Points} (proper : Proper P) (close : Near P) {f : Fit} where
       the-line (p .told) (up-line P i j k some) tt (same-written (sym (p .a-is)) (sym (p .b-is ∙ ap (λ (t : ℤ). c -ℤ t) e)) (sym q)) (up-within proper i j k g some) (least proper (up i j k) g) (up-single proper i j k g)
       (alike-written some (ap natAbs (sym (p .w-is ∙ e))) (sym q)) (unit-most (f .q) (natAbs (P .x k -ℤ P .x i)) (P .d) q (close i k (omega (arith, g .fits .0, g .fits .1, g .fits .2)) (g .fits .2)))
 
-  pub down-best : (i j k : ℕ) → Greatest P (down i j k) → (n : ℤ) → n ≡ num P (down i j k) → FitParts (pos 2 *ℤ (P .low k -ℤ P .low i)) (pos 2 *ℤ (P .x k *ℤ P .low i -ℤ P .x i *ℤ P .low k) -ℤ (pos 0 -ℤ n)) (pos 2 *ℤ (P .x k -ℤ P .x i) *ℤ pos (P .d)) n f → TheLine All P f
+  pub down-best : (i j k : ℕ) → Greatest P (down i j k) → (n : ℤ) → n ≡ num P (down i j k) → OverLow P i k n f → TheLine All P f
   down-best i j k g n e p =
       let some = part-some proper (down i j k) (g .fits) in
       let q = told-part (P .x k -ℤ P .x i) (f .q) (P .d) (p .q-is) in
@@ -75,9 +75,8 @@ pub greatest-twin : {P : Points} {i j : ℕ} → num P (one i) ≡ num P (one j)
 greatest-twin {P} e h g = record { fits = h; all = λ c f. subst (λ (n : ℤ). (num P c *ℤ pos 1) ≤ℤ (n *ℤ den P c)) e (g .all c f) }
 
 -- every other candidate is less: several lines
-pub several-best : {g : Band} → Admitted g → (i : ℕ) → Greatest (points g) (one i) → ((c : Candidate) → Fits (points g) c → (c ≡ one i → ⊥) → (num (points g) c *ℤ den (points g) (one i)) <ℤ (num (points g) (one i) *ℤ den (points g) c)) → {h : Wide} → WideParts (num (points g) (one i)) (g .d) h → natAbs (num (points g) (one i)) ≤ 18540000000000 → OnlyWidth All (points g) h
-several-best {g} a i top alone {h} p size =
-    let P = points g in
+pub several-best : {P : Points} → Admitted P → (i : ℕ) → Greatest P (one i) → ((c : Candidate) → Fits P c → (c ≡ one i → ⊥) → (num P c *ℤ den P (one i)) <ℤ (num P (one i) *ℤ den P c)) → {h : Wide} → WideParts (num P (one i)) (P .d) h → natAbs (num P (one i)) ≤ 18540000000000 → OnlyWidth All P h
+several-best {P} a i top alone {h} p size =
     let proper = a .proper in
     let q : part P (one i) ≡ h .q = omega (arith, p .q-is) in
     let e : Alike (wide P (one i)) (part P (one i)) (natAbs (h .w)) (h .q) = alike-written (part-some proper (one i) (top .fits)) (ap natAbs (sym (p .w-is))) q in
@@ -92,16 +91,16 @@ several-best {g} a i top alone {h} p size =
     }
 
 -- ---- what the search found
-module _ {g : Band} {t : Top} (a : Admitted g) (b : BestOf g 2673 t) {c : S.Candidate} (w : t .which ≡ c) where
-  pub found-is : Greatest (points g) (shown c)
-  found-is = subst (λ (c : S.Candidate). Greatest (points g) (shown c)) w (found a b)
+module _ {P : Points} {t : Top} (b : O.Greatest P t) {c : S.Candidate} (w : t .which ≡ c) where
+  pub found-is : Greatest P (shown c)
+  found-is = subst (λ (c : S.Candidate). Greatest P (shown c)) w (found b)
 
-  pub num-is : stored (t .num) ≡ num (points g) (shown c)
-  num-is = stored-is (t .num) 18540000000000 (top-size a (b .levelled) .0) tt ∙ b .levelled .num ∙ ap (λ (c : S.Candidate). num (points g) (shown c)) w
+  pub num-is : Admitted P → stored (t .num) ≡ num P (shown c)
+  num-is a = stored-is (t .num) 18540000000000 (top-size a (b .levelled) .0) tt ∙ b .levelled .num ∙ ap (λ (c : S.Candidate). num P (shown c)) w
 
 -- the outer inputs of a chord that was found
-pub chosen : {g : Band} → Admitted g → (c : Candidate) → Greatest (points g) c → {i j k : ℕ} → (i < j) × (j < k) × (k < g .m) → {n : ℤ} → n ≡ num (points g) c → Chosen g i k n
-chosen {g} a c top h {n} e = record {
+pub chosen : {P : Points} → Admitted P → (c : Candidate) → Greatest P c → {i j k : ℕ} → (i < j) × (j < k) × (k < P .m) → {n : ℤ} → n ≡ num P c → Chosen P i k n
+chosen a c top h {n} e = record {
   admitted = a;
   order = omega (arith, h .0, h .1);
   fits = h .2;

@@ -1,4 +1,4 @@
--- The terminal line's whole numbers, and how far the values lie from it. Method.
+-- The whole numbers of a line through two points, and how far the values lie from the terminal line. Method.
 use mathlib.Core.Path.{_≡_}
 use mathlib.Core.List.{_∷_, []}
 use Prim.Native.Nat.{ℕ, _-_, _<_, _≤_}
@@ -6,7 +6,7 @@ use lib.IntN.{ℤ, pos, natAbs, _+ℤ_, _-ℤ_, _*ℤ_}
 use lib.Signed.{_≤ℤ_, _<ℤ_}
 use Rattle.whole.specs.Machine.{Bounds}
 use Rattle.band.specs.Line.{Points}
-use Rattle.fit.specs.Greater.{smaller, greater}
+use Rattle.whole.specs.Greater.{smaller, greater}
 use Rattle.band.specs.Band.{most-d}
 use Rattle.fit.specs.declared.Ends.{Ends}
 use Rattle.fit.specs.declared.Spread.{Spread}
@@ -18,8 +18,8 @@ most-a = 206000000
 abbrev pub most-b : ℕ
 most-b = 6180000000000
 
-abbrev pub most-s : ℕ
-most-s = 60000
+abbrev pub most-gap : ℕ
+most-gap = 60000
 
 abbrev pub most-e : ℕ
 most-e = 18540000000000
@@ -27,11 +27,11 @@ most-e = 18540000000000
 -- e is the line through the value u at x and v at z
 pub record Through (x z u v : ℤ) (e : Ends) : Type 0 where
   pub a-is : e .a ≡ v -ℤ u
-  pub b-is : e .b ≡ u *ℤ z -ℤ v *ℤ x
+  pub b-is : e .b ≡ z *ℤ u -ℤ x *ℤ v
   pub s-is : e .s ≡ z -ℤ x
   pub a-most : natAbs (e .a) ≤ most-a
   pub b-most : natAbs (e .b) ≤ most-b
-  pub s-most : natAbs (e .s) ≤ most-s
+  pub s-most : natAbs (e .s) ≤ most-gap
 
 -- through the first and the last point
 abbrev pub EndsOf : Points → Ends → Type 0
@@ -60,7 +60,7 @@ pub record Ranged (P : Points) (e : Ends) (k : ℕ) (r : Spread) : Type 0 where
 
 -- what the line's whole numbers are made from
 pub record Ready (e : Ends) (r : Spread) (d : ℕ) : Type 0 where
-  pub bounds : Bounds (e .a ∷ e .b ∷ e .s ∷ r .lo ∷ r .hi ∷ pos d ∷ []) (most-a ∷ most-b ∷ most-s ∷ most-e ∷ most-e ∷ most-d ∷ [])
+  pub bounds : Bounds (e .a ∷ e .b ∷ e .s ∷ r .lo ∷ r .hi ∷ pos d ∷ []) (most-a ∷ most-b ∷ most-gap ∷ most-e ∷ most-e ∷ most-d ∷ [])
   pub rise : pos 0 <ℤ e .s
   pub unit : 0 < d
   pub low : r .lo ≤ℤ pos 0

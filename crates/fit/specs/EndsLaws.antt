@@ -12,10 +12,9 @@ use Rattle.whole.specs.Ring.{ring}
 use Rattle.whole.specs.Sign.{Positive, le-trans, lt-sign}
 use Rattle.whole.specs.Machine.{sized}
 use Rattle.band.specs.Line.{Points}
-use Rattle.band.specs.Band.{points, most-x, most-v, Admitted}
-use Rattle.fit.specs.Greater.{smaller, greater, smaller-left, smaller-right, smaller-is, greater-left, greater-right, greater-is}
-use Rattle.fit.specs.Ends.{most-a, most-b, most-s, most-e, EndsOf, above, Wider, Ranged, Ready}
-use Rattle.band.specs.declared.Band.{Band}
+use Rattle.band.specs.Band.{most-x, most-v, Admitted}
+use Rattle.whole.specs.Greater.{smaller, greater, smaller-left, smaller-right, smaller-is, greater-left, greater-right, greater-is}
+use Rattle.fit.specs.Ends.{most-a, most-b, most-gap, most-e, EndsOf, above, Wider, Ranged, Ready}
 use Rattle.fit.specs.declared.Ends.{Ends}
 use Rattle.fit.specs.declared.Spread.{Spread}
 
@@ -29,7 +28,7 @@ module _ (P : Points) (e : Ends) where
       ap (λ (s : ℤ). s *ℤ P .low 0 -ℤ (e .a *ℤ P .x 0 +ℤ e .b)) (t .s-is)
       ∙ ap (λ (a : ℤ). (y -ℤ P .x 0) *ℤ P .low 0 -ℤ (a *ℤ P .x 0 +ℤ e .b)) (t .a-is)
       ∙ ap (λ (b : ℤ). (y -ℤ P .x 0) *ℤ P .low 0 -ℤ ((v -ℤ P .low 0) *ℤ P .x 0 +ℤ b)) (t .b-is)
-      ∙ ring (P .x 0 ∷ y ∷ P .low 0 ∷ v ∷ []) ((var 1 ⊖ var 0) ⊗ var 2 ⊖ ((var 3 ⊖ var 2) ⊗ var 0 ⊕ (var 2 ⊗ var 1 ⊖ var 3 ⊗ var 0))) (lit 0) tt
+      ∙ ring (P .x 0 ∷ y ∷ P .low 0 ∷ v ∷ []) ((var 1 ⊖ var 0) ⊗ var 2 ⊖ ((var 3 ⊖ var 2) ⊗ var 0 ⊕ (var 1 ⊗ var 2 ⊖ var 0 ⊗ var 3))) (lit 0) tt
 
   -- and through the last
   pub above-last : EndsOf P e → above P e (P .m - 1) ≡ pos 0
@@ -39,7 +38,14 @@ module _ (P : Points) (e : Ends) where
       ap (λ (s : ℤ). s *ℤ v -ℤ (e .a *ℤ y +ℤ e .b)) (t .s-is)
       ∙ ap (λ (a : ℤ). (y -ℤ P .x 0) *ℤ v -ℤ (a *ℤ y +ℤ e .b)) (t .a-is)
       ∙ ap (λ (b : ℤ). (y -ℤ P .x 0) *ℤ v -ℤ ((v -ℤ P .low 0) *ℤ y +ℤ b)) (t .b-is)
-      ∙ ring (P .x 0 ∷ y ∷ P .low 0 ∷ v ∷ []) ((var 1 ⊖ var 0) ⊗ var 3 ⊖ ((var 3 ⊖ var 2) ⊗ var 1 ⊕ (var 2 ⊗ var 1 ⊖ var 3 ⊗ var 0))) (lit 0) tt
+      ∙ ring (P .x 0 ∷ y ∷ P .low 0 ∷ v ∷ []) ((var 1 ⊖ var 0) ⊗ var 3 ⊖ ((var 3 ⊖ var 2) ⊗ var 1 ⊕ (var 1 ⊗ var 2 ⊖ var 0 ⊗ var 3))) (lit 0) tt
+
+  -- a height, of what the code reads: how far the value is above the first one, and its input beyond the first
+  pub above-from : EndsOf P e → (p : ℕ) → e .s *ℤ (P .low p -ℤ P .low 0) -ℤ e .a *ℤ (P .x p -ℤ P .x 0) ≡ above P e p
+  above-from t p =
+      ring (e .s ∷ P .low p ∷ P .low 0 ∷ e .a ∷ P .x p ∷ P .x 0 ∷ e .b ∷ []) (var 0 ⊗ (var 1 ⊖ var 2) ⊖ var 3 ⊗ (var 4 ⊖ var 5)) (var 0 ⊗ var 1 ⊖ (var 3 ⊗ var 4 ⊕ var 6) ⊖ (var 0 ⊗ var 2 ⊖ (var 3 ⊗ var 5 ⊕ var 6))) tt
+      ∙ ap (λ (z : ℤ). above P e p -ℤ z) (above-first t)
+      ∙ ring (above P e p ∷ []) (var 0 ⊖ lit 0) (var 0) tt
 
   pub ranged-none : EndsOf P e → 0 < P .m → Ranged P e 0 (record { lo = pos 0; hi = pos 0 })
   ranged-none t h = record {
@@ -103,16 +109,15 @@ module _ {P : Points} {e : Ends} where
   ranged-all {k} {r} R h = subst (λ (n : ℕ). Ranged P e n r) (le-antisymm (R .reach) h) R
 
 -- ---- sizes
-module _ {g : Band} {e : Ends} (a : Admitted g) (t : EndsOf (points g) e) where
-  above-size : (p : ℕ) → p < g .m → natAbs (above (points g) e p) ≤ most-e
+module _ {P : Points} {e : Ends} (a : Admitted P) (t : EndsOf P e) where
+  above-size : (p : ℕ) → p < P .m → natAbs (above P e p) ≤ most-e
   above-size p h =
-      let P = points g in
-      sized (e .s ∷ P .low p ∷ e .a ∷ P .x p ∷ e .b ∷ []) (most-s ∷ most-v ∷ most-a ∷ most-x ∷ most-b ∷ []) (t .s-most, (a .lows p h, (t .a-most, (a .inputs p h, (t .b-most, tt)))))
+      sized (e .s ∷ P .low p ∷ e .a ∷ P .x p ∷ e .b ∷ []) (most-gap ∷ most-v ∷ most-a ∷ most-x ∷ most-b ∷ []) (t .s-most, (a .lows p h, (t .a-most, (a .inputs p h, (t .b-most, tt)))))
       (var 0 ⊗ var 1 ⊖ (var 2 ⊗ var 3 ⊕ var 4)) most-e tt
 
-  pub ready : {r : Spread} → Ranged (points g) e (g .m) r → Ready e r (g .d)
+  pub ready : {r : Spread} → Ranged P e (P .m) r → Ready e r (P .d)
   ready {r} R =
-      let some : 0 < g .m = omega (arith, a .three) in
+      let some : 0 < P .m = omega (arith, a .three) in
       record {
         bounds = (
           t .a-most,
@@ -127,8 +132,8 @@ module _ {g : Band} {e : Ends} (a : Admitted g) (t : EndsOf (points g) e) where
             ),
           ),
         );
-        rise = subst Positive (sym (t .s-is)) (lt-sign (a .proper .rise 0 (g .m - 1) (omega (arith, a .three)) (omega (arith, a .three))));
+        rise = subst Positive (sym (t .s-is)) (lt-sign (a .proper .rise 0 (P .m - 1) (omega (arith, a .three)) (omega (arith, a .three))));
         unit = a .proper .unit;
-        low = subst (λ (z : ℤ). r .lo ≤ℤ z) (above-first (points g) e t) (R .from 0 some);
-        high = subst (λ (z : ℤ). z ≤ℤ r .hi) (above-first (points g) e t) (R .to 0 some);
+        low = subst (λ (z : ℤ). r .lo ≤ℤ z) (above-first P e t) (R .from 0 some);
+        high = subst (λ (z : ℤ). z ≤ℤ r .hi) (above-first P e t) (R .to 0 some);
       }

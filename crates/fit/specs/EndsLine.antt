@@ -16,7 +16,7 @@ use Rattle.band.specs.Line.{Line, Points, Proper, OneValue, off, Largest, Termi
 use Rattle.band.specs.Largest.{Reached, largest-by}
 use Rattle.band.specs.Shift.{Range}
 use Rattle.band.specs.Seen.{offE}
-use Rattle.fit.specs.Greater.{greater, greater-left, greater-right, greater-is}
+use Rattle.whole.specs.Greater.{greater, greater-left, greater-right, greater-is}
 use Rattle.fit.specs.Ends.{EndsOf, above, Ranged}
 use Rattle.fit.specs.EndsLaws.{above-first, above-last}
 use Rattle.fit.specs.declared.Ends.{Ends}

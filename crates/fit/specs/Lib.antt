@@ -5,7 +5,6 @@ pub mod Due
 pub mod Ends
 pub mod EndsLaws
 pub mod EndsLine
-pub mod Greater
 pub mod Once
 pub mod Parts
 pub mod PartsLaws

@@ -7,16 +7,14 @@ use Rattle.whole.specs.Sign.{positive-nat, nat-nonneg}
 use Rattle.exact.specs.Value.{Made}
 use Rattle.exact.specs.Once.{same-terms}
 use Rattle.exact.specs.declared.Fraction.{Fraction}
-use Rattle.band.specs.Line.{Line, Points, Largest, Several, Same, Terminal}
+use Rattle.band.specs.Line.{Line, Points, OneValue, Largest, Several, Same, Terminal}
 use Rattle.band.specs.Same.{through, same-sym, same-within, exclusive, width-same}
 use Rattle.band.specs.Largest.{largest-same}
 use Rattle.band.specs.Least.{least, all-single}
 use Rattle.band.specs.Terminal.{terminal-line, terminal-some, terminal, terminal-same}
 use Rattle.band.specs.Shift.{Range, moved, moved-parallel, moved-within, moved-least, moved-single, shift-wide, shift-part}
-use Rattle.band.specs.Band.{points, Level}
 use Rattle.fit.specs.Answer.{Told, line-of, TheLine, OnlyWidth, BestDue, TerminalDue, ShiftedDue}
 use Rattle.fit.specs.Scaled.{within-alike, several-alike}
-use Rattle.band.specs.declared.Band.{Band}
 use Rattle.search.specs.Exists.{some-greatest}
 use Rattle.fit.specs.declared.Fit.{Fit}
 use Rattle.fit.specs.declared.Wide.{Wide}
@@ -69,51 +67,51 @@ pub not-both : {F : Line → Type 0} {P : Points} {f : Fit} {h : Wide} → TheLi
 not-both a b = exclusive (a .single) (several-alike (record { some = b .some; some′ = a .told .some; is = width-same (b .least) (a .least) }) (b .several))
 
 -- `best`
-pub one-best : (g : Band) (r s : Drawn) → BestDue g r → BestDue g s → Agree r s
-one-best g (drawn.Line f) (drawn.Line h) a b = line-once (a .1) (b .1)
-one-best g (drawn.Line f) (drawn.Several h) a b = not-both (a .1) (b .1)
-one-best g (drawn.Line f) drawn.Improper a b = b (a .0)
-one-best g (drawn.Several f) (drawn.Line h) a b = not-both (b .1) (a .1)
-one-best g (drawn.Several f) (drawn.Several h) a b = wide-once (a .1 .width) (b .1 .width) (a .1 .some) (b .1 .some) (a .1 .sign) (b .1 .sign) (width-same (a .1 .least) (b .1 .least))
-one-best g (drawn.Several f) drawn.Improper a b = b (a .0)
-one-best g drawn.Improper (drawn.Line h) a b = a (b .0)
-one-best g drawn.Improper (drawn.Several h) a b = a (b .0)
-one-best g drawn.Improper drawn.Improper a b = tt
+pub one-best : (P : Points) (r s : Drawn) → BestDue P r → BestDue P s → Agree r s
+one-best P (drawn.Line f) (drawn.Line h) a b = line-once (a .1) (b .1)
+one-best P (drawn.Line f) (drawn.Several h) a b = not-both (a .1) (b .1)
+one-best P (drawn.Line f) drawn.Improper a b = b (a .0)
+one-best P (drawn.Several f) (drawn.Line h) a b = not-both (b .1) (a .1)
+one-best P (drawn.Several f) (drawn.Several h) a b = wide-once (a .1 .width) (b .1 .width) (a .1 .some) (b .1 .some) (a .1 .sign) (b .1 .sign) (width-same (a .1 .least) (b .1 .least))
+one-best P (drawn.Several f) drawn.Improper a b = b (a .0)
+one-best P drawn.Improper (drawn.Line h) a b = a (b .0)
+one-best P drawn.Improper (drawn.Several h) a b = a (b .0)
+one-best P drawn.Improper drawn.Improper a b = tt
 
 -- `terminal`
 pub same-largest : {P : Points} {L M : Line} {w z : ℕ} → Same L M → Largest P L w z → Largest P M w z
 same-largest e A = record { some = A .some; within = same-within e (A .within); least = λ w′ z′ h W. A .least w′ z′ h (same-within (same-sym e) W) }
 
-pub one-terminal : (g : Band) (r s : Drawn) → TerminalDue g r → TerminalDue g s → Agree r s
-one-terminal g (drawn.Line f) (drawn.Line h) a b =
+pub one-terminal : (P : Points) (r s : Drawn) → TerminalDue P r → TerminalDue P s → Agree r s
+one-terminal P (drawn.Line f) (drawn.Line h) a b =
     let A = a .2 in
     let B = b .2 in
     let e = terminal-same (a .0 .proper) (line-of f (A .told .some)) (line-of h (B .told .some)) (A .ends) (B .ends) in
     told-once (A .told) (B .told) (largest-same (same-largest e (A .largest)) (B .largest)) e
-one-terminal g (drawn.Line f) drawn.Improper a b = b (a .0) (a .1)
-one-terminal g drawn.Improper (drawn.Line h) a b = a (b .0) (b .1)
-one-terminal g drawn.Improper drawn.Improper a b = tt
-one-terminal g (drawn.Several f) s a b = absurd a
-one-terminal g (drawn.Line f) (drawn.Several h) a b = absurd b
-one-terminal g drawn.Improper (drawn.Several h) a b = absurd b
+one-terminal P (drawn.Line f) drawn.Improper a b = b (a .0) (a .1)
+one-terminal P drawn.Improper (drawn.Line h) a b = a (b .0) (b .1)
+one-terminal P drawn.Improper drawn.Improper a b = tt
+one-terminal P (drawn.Several f) s a b = absurd a
+one-terminal P (drawn.Line f) (drawn.Several h) a b = absurd b
+one-terminal P drawn.Improper (drawn.Several h) a b = absurd b
 
 -- `shifted`
-pub one-shifted : (g : Band) (r s : Drawn) → ShiftedDue g r → ShiftedDue g s → Agree r s
-one-shifted g (drawn.Line f) (drawn.Line h) a b =
+pub one-shifted : (P : Points) (r s : Drawn) → ShiftedDue P r → ShiftedDue P s → Agree r s
+one-shifted P (drawn.Line f) (drawn.Line h) a b =
     let some = terminal-some (a .0 .proper) in
-    let T = terminal-line (points g) some in
+    let T = terminal-line P some in
     let t = terminal (a .0 .proper) some in
-    line-once (a .2 T t) (b .2 T t)
-one-shifted g (drawn.Line f) drawn.Improper a b = b (a .0) (a .1)
-one-shifted g drawn.Improper (drawn.Line h) a b = a (b .0) (b .1)
-one-shifted g drawn.Improper drawn.Improper a b = tt
-one-shifted g (drawn.Several f) s a b = absurd a
-one-shifted g (drawn.Line f) (drawn.Several h) a b = absurd b
-one-shifted g drawn.Improper (drawn.Several h) a b = absurd b
+    line-once (a .2 .line T t) (b .2 .line T t)
+one-shifted P (drawn.Line f) drawn.Improper a b = b (a .0) (a .1)
+one-shifted P drawn.Improper (drawn.Line h) a b = a (b .0) (b .1)
+one-shifted P drawn.Improper drawn.Improper a b = tt
+one-shifted P (drawn.Several f) s a b = absurd a
+one-shifted P (drawn.Line f) (drawn.Several h) a b = absurd b
+one-shifted P drawn.Improper (drawn.Several h) a b = absurd b
 
 -- ---- one value at each input: never several
-pub level-single : (g : Band) → Level g → (h : Wide) → BestDue g (drawn.Several h) → ⊥
-level-single g level h b =
+pub level-single : (P : Points) → OneValue P → (h : Wide) → BestDue P (drawn.Several h) → ⊥
+level-single P level h b =
     let top = some-greatest (b .0) in
     let proper = b .0 .proper in
     let l = least proper (top .0) (top .1) in
@@ -125,14 +123,14 @@ pub record Moved (P : Points) (T : Line) (lo hi : ℤ) (some : 0 < 2 * P .d * T 
   pub line : Same (line-of f (told .some)) (moved P T lo hi some)
   pub width : natAbs (f .w) * shift-part P T ≡ shift-wide lo hi * f .q
 
-pub shifted-moved : {g : Band} {f : Fit} → ShiftedDue g (drawn.Line f) → {T : Line} → Terminal (points g) T → {lo hi : ℤ} → Range (points g) T lo hi → (some : 0 < 2 * g .d * T .q) → Moved (points g) T lo hi some f
-shifted-moved {g} {f} due {T} t {lo} {hi} R some =
+pub shifted-moved : {P : Points} {f : Fit} → ShiftedDue P (drawn.Line f) → {T : Line} → Terminal P T → {lo hi : ℤ} → Range P T lo hi → (some : 0 < 2 * P .d * T .q) → Moved P T lo hi some f
+shifted-moved {P} {f} due {T} t {lo} {hi} R some =
     let proper = due .0 .proper in
-    let a = due .2 T t in
+    let a = due .2 .line T t in
     let l = moved-least proper R in
     let e = width-same (a .least) l in
     record {
       told = a .told;
-      line = moved-single proper R (line-of f (a .told .some)) (moved (points g) T lo hi some) (a .member) (moved-parallel (points g) T lo hi some) (within-alike (record { some = a .told .some; some′ = l .some; is = e }) (a .reached)) (moved-within proper R some);
+      line = moved-single proper R (line-of f (a .told .some)) (moved P T lo hi some) (a .member) (moved-parallel P T lo hi some) (within-alike (record { some = a .told .some; some′ = l .some; is = e }) (a .reached)) (moved-within proper R some);
       width = e;
     }

@@ -7,7 +7,6 @@ use Rattle.exact.specs.Value.{Made}
 use Rattle.band.specs.Line.{Points}
 use Rattle.band.specs.Band.{Admitted}
 use Rattle.fit.specs.Answer.{Told}
-use Rattle.band.specs.declared.Band.{Band}
 use Rattle.fit.specs.declared.Fit.{Fit}
 use Rattle.fit.specs.declared.Wide.{Wide}
 
@@ -28,19 +27,26 @@ pub record FitParts (a b q w : ℤ) (f : Fit) : Type 0 where
   pub q-is : pos (f .q) ≡ q
   pub w-is : f .w ≡ w
 
--- a line over the inputs x and z, in units of 1/d, with the width w
-pub record Over (x z w : ℤ) (d : ℕ) : Type 0 where
-  pub rise : x <ℤ z
+-- a line over a gap s of inputs, in units of 1/d, with the width w
+pub record Over (s w : ℤ) (d : ℕ) : Type 0 where
+  pub rise : pos 0 <ℤ s
   pub sign : pos 0 ≤ℤ w
   pub unit : 0 < d
 
--- two inputs of an admitted band, and a width
-pub record Chosen (g : Band) (i k : ℕ) (n : ℤ) : Type 0 where
-  pub admitted : Admitted g
+-- two admitted inputs, and a width
+pub record Chosen (P : Points) (i k : ℕ) (n : ℤ) : Type 0 where
+  pub admitted : Admitted P
   pub order : i < k
-  pub fits : k < g .m
+  pub fits : k < P .m
   pub size : natAbs n ≤ 18540000000000
   pub sign : pos 0 ≤ℤ n
+
+-- f is told with the numbers of the chord over the highest values at i and k, moved down by half of n, or over the lowest, moved up, with the width n
+abbrev pub OverHigh : Points → (i k : ℕ) → ℤ → Fit → Type 0
+OverHigh P i k n f = FitParts (pos 2 *ℤ (P .high k -ℤ P .high i)) (pos 2 *ℤ (P .x k *ℤ P .high i -ℤ P .x i *ℤ P .high k) -ℤ n) (pos 2 *ℤ (P .x k -ℤ P .x i) *ℤ pos (P .d)) n f
+
+abbrev pub OverLow : Points → (i k : ℕ) → ℤ → Fit → Type 0
+OverLow P i k n f = FitParts (pos 2 *ℤ (P .low k -ℤ P .low i)) (pos 2 *ℤ (P .x k *ℤ P .low i -ℤ P .x i *ℤ P .low k) -ℤ (pos 0 -ℤ n)) (pos 2 *ℤ (P .x k -ℤ P .x i) *ℤ pos (P .d)) n f
 
 -- f is told with the numbers of the line through the middles at i and j
 abbrev pub PairParts : Points → (i j : ℕ) → Fit → Type 0

@@ -3,27 +3,23 @@ ghost use mathlib.Core.List.{_∷_, []};
 ghost use mathlib.Core.Path.{_≡_};
 ghost use Prim.Native.Nat.{_<_, _≤_};
 ghost use lib.IntN.{pos, natAbs, _+ℤ_, _-ℤ_, _*ℤ_};
+ghost use lib.ListN.{getD};
+ghost use Rattle.whole.specs.Greater.{smaller, greater};
 ghost use Rattle.whole.specs.Machine.{Bounds};
-ghost use Rattle.band.specs.Band.{points, most-x, most-v, most-d, Admitted};
-ghost use Rattle.fit.specs.Answer.{BestDue, TerminalDue, ShiftedDue};
-ghost use Rattle.search.specs.Search.{BestOf};
-ghost use Rattle.fit.specs.Parts.{Whole, FitParts, Over, Chosen, PairParts, WideParts};
-ghost use Rattle.fit.specs.Greater.{smaller, greater};
-ghost use Rattle.fit.specs.Ends.{most-a, most-b, most-s, most-e, Through, EndsOf, Wider, Ranged, Ready};
-use band::Band;
-use band::high_at;
-use band::input_at;
-use band::is_admitted;
-use band::is_drawn;
-use band::low_at;
+ghost use Rattle.band.specs.Line.{OneValue};
+ghost use Rattle.band.specs.Band.{lent, most-x, most-v, most-d, Admitted};
+ghost use Rattle.search.specs.Over.{Greatest};
+ghost use Rattle.fit.specs.Answer.{BestDue, TheTerminal, TerminalDue, TheShifted, ShiftedDue};
+ghost use Rattle.fit.specs.Parts.{Whole, FitParts, Over, Chosen, OverHigh, OverLow, PairParts, WideParts};
+ghost use Rattle.fit.specs.Ends.{most-a, most-b, most-gap, most-e, Through, EndsOf, Wider, Ranged, Ready};
 use exact::Fraction;
 use search::Candidate;
 use search::Top;
-use search::gap;
-use search::greatest;
-use search::twin;
-use units::Input;
-use units::Sum;
+use units::gap;
+use units::input_at;
+use units::part_at;
+use units::rise;
+use units::times;
 
 // The line (a·x + b)/q and its width w/q, as whole numbers over one denominator, and the three as fractions in lowest terms. The index of a line is made of w and a.
 pub struct Fit {
@@ -43,14 +39,14 @@ pub struct Wide {
     pub width: Fraction,
 }
 
-// A line; or only its width, where several lines reach it; or nothing, where the band is not admitted.
+// A line; or only its width, where several lines reach it; or nothing, where the points are not admitted.
 pub enum Drawn {
     Line(Fit),
     Several(Wide),
     Improper,
 }
 
-// The terminal line (a·x + b)/(s·d).
+// The line (a·x + b)/(s·d) through two points.
 struct Ends {
     a: i64,
     b: i64,
@@ -92,47 +88,31 @@ fn larger(a: i64, b: i64) -> i64
     if a < b { b } else { a }
 }
 
-// The line through the value a at x and c at z.
-fn through(x: Input, z: Input, a: Sum, c: Sum) -> Ends
-    requires { ⌜ Bounds (x .count ∷ z .count ∷ a .count ∷ c .count ∷ []) (most-x ∷ most-x ∷ most-v ∷ most-v ∷ []) ⌝ }
-    ensures { λ e. ⌜ Through (x .count) (z .count) (a .count) (c .count) e ⌝ }
+// The line through the values v at i and at k.
+fn through(x: &[i64; 11], v: &[i64; 11], i: usize, k: usize) -> Ends
+    requires { ⌜ Bounds (getD (now x) i (pos 0) ∷ getD (now x) k (pos 0) ∷ getD (now v) i (pos 0) ∷ getD (now v) k (pos 0) ∷ []) (most-x ∷ most-x ∷ most-v ∷ most-v ∷ []) ⌝ }
+    requires { ⌜ (i < 11) × (k < 11) ⌝ }
+    ensures { λ e. ⌜ Through (getD (now (x .entry)) i (pos 0)) (getD (now (x .entry)) k (pos 0)) (getD (now (v .entry)) i (pos 0)) (getD (now (v .entry)) k (pos 0)) e ⌝ }
 {
-    let p = x.count;
-    let q = z.count;
-    let u = a.count;
-    let v = c.count;
+    let p = input_at(x, i);
+    let q = input_at(x, k);
+    let a = part_at(v, i);
+    let c = part_at(v, k);
     Ends {
-        a: v - u,
-        b: u * q - v * p,
-        s: q - p,
+        a: rise(a, c),
+        b: times(q, a) - times(p, c),
+        s: gap(p, q),
     }
 }
 
-// The line through the first and the last point.
-fn outer(g: Band) -> Ends
-    requires { ⌜ Admitted g ⌝ }
-    ensures { λ e. ⌜ EndsOf (points g) e ⌝ }
-{
-    let m = g.m;
-    through(
-        input_at(g, 0),
-        input_at(g, m - 1),
-        low_at(g, 0),
-        low_at(g, m - 1),
-    )
-}
-
-// How far the value v at x is above the line, times s.
-fn height(e: Ends, x: Input, v: Sum) -> i64
-    requires { ⌜ Bounds (e .a ∷ e .b ∷ e .s ∷ x .count ∷ v .count ∷ []) (most-a ∷ most-b ∷ most-s ∷ most-x ∷ most-v ∷ []) ⌝ }
-    ensures { λ r. ⌜ r ≡ e .s *ℤ v .count -ℤ (e .a *ℤ x .count +ℤ e .b) ⌝ }
+// How far a value is above the line, times s, where it lies `lift` above the line's first value, and its input `run` beyond that one's.
+fn height(e: Ends, run: i64, lift: i64) -> i64
+    requires { ⌜ Bounds (e .a ∷ e .s ∷ run ∷ lift ∷ []) (most-a ∷ most-gap ∷ most-gap ∷ most-a ∷ []) ⌝ }
+    ensures { λ r. ⌜ r ≡ e .s *ℤ lift -ℤ e .a *ℤ run ⌝ }
 {
     let a = e.a;
-    let b = e.b;
     let s = e.s;
-    let p = x.count;
-    let y = v.count;
-    s * y - (a * p + b)
+    s * lift - a * run
 }
 
 // The height h taken in.
@@ -146,15 +126,19 @@ fn wider(r: Spread, h: i64) -> Spread
 }
 
 // The smallest and the largest height; the first is zero.
-fn spread_of(g: Band, e: Ends) -> Spread
-    requires { ⌜ Admitted g × EndsOf (points g) e ⌝ }
-    ensures { λ r. ⌜ Ranged (points g) e (g .m) r ⌝ }
+fn spread_of(m: usize, d: u64, x: &[i64; 11], low: &[i64; 11], high: &[i64; 11], e: Ends) -> Spread
+    requires { ⌜ Admitted (lent m d (now x) (now low) (now high)) × EndsOf (lent m d (now x) (now low) (now high)) e ⌝ }
+    ensures { λ r. ⌜ Ranged (lent m d (now (x .entry)) (now (low .entry)) (now (high .entry))) e m r ⌝ }
 {
-    let m = g.m;
+    let p = input_at(x, 0);
+    let v = part_at(low, 0);
     let mut r = Spread { lo: 0, hi: 0 };
     let mut i = 0;
     while i < m {
-        r = wider(r, height(e, input_at(g, i), low_at(g, i)));
+        r = wider(
+            r,
+            height(e, gap(p, input_at(x, i)), rise(v, part_at(low, i))),
+        );
         i += 1;
     }
     r
@@ -183,92 +167,84 @@ fn centred(e: Ends, r: Spread, d: u64) -> Fit
     told(2 * a, 2 * b + (lo + hi), 2 * s * (d as i64), hi - lo)
 }
 
-// The line over the value a at x and c at z, moved down by half of s, with the width w.
-fn chord(x: Input, z: Input, a: Sum, c: Sum, s: i64, w: i64, d: u64) -> Fit
-    requires { ⌜ Bounds (x .count ∷ z .count ∷ a .count ∷ c .count ∷ s ∷ w ∷ pos d ∷ []) (most-x ∷ most-x ∷ most-v ∷ most-v ∷ most-e ∷ most-e ∷ most-d ∷ []) ⌝ }
-    requires { ⌜ Over (x .count) (z .count) w d ⌝ }
-    ensures { λ f. ⌜ FitParts (pos 2 *ℤ (c .count -ℤ a .count)) (pos 2 *ℤ (z .count *ℤ a .count -ℤ x .count *ℤ c .count) -ℤ s) (pos 2 *ℤ (z .count -ℤ x .count) *ℤ pos d) w f ⌝ }
+// The line e, moved down by half of s, with the width w.
+fn chord(e: Ends, s: i64, w: i64, d: u64) -> Fit
+    requires { ⌜ Bounds (e .a ∷ e .b ∷ e .s ∷ s ∷ w ∷ pos d ∷ []) (most-a ∷ most-b ∷ most-gap ∷ most-e ∷ most-e ∷ most-d ∷ []) ⌝ }
+    requires { ⌜ Over (e .s) w d ⌝ }
+    ensures { λ f. ⌜ FitParts (pos 2 *ℤ e .a) (pos 2 *ℤ e .b -ℤ s) (pos 2 *ℤ e .s *ℤ pos d) w f ⌝ }
 {
-    let p = x.count;
-    let q = z.count;
-    let u = a.count;
-    let v = c.count;
-    told(
-        2 * (v - u),
-        2 * (q * u - p * v) - s,
-        2 * (q - p) * (d as i64),
-        w,
-    )
+    let a = e.a;
+    let b = e.b;
+    let span = e.s;
+    told(2 * a, 2 * b - s, 2 * span * (d as i64), w)
 }
 
 // The chord over the highest values at i and k, moved half way down to a lowest value between them: n is how far that is, times the gap of i and k.
-fn over_high(g: Band, i: usize, k: usize, n: i64) -> Fit
-    requires { ⌜ Chosen g i k n ⌝ }
-    ensures { λ f. ⌜ FitParts (pos 2 *ℤ (points g .high k -ℤ points g .high i)) (pos 2 *ℤ (points g .x k *ℤ points g .high i -ℤ points g .x i *ℤ points g .high k) -ℤ n) (pos 2 *ℤ (points g .x k -ℤ points g .x i) *ℤ pos (g .d)) n f ⌝ }
+fn over_high(
+    m: usize,
+    d: u64,
+    x: &[i64; 11],
+    low: &[i64; 11],
+    high: &[i64; 11],
+    i: usize,
+    k: usize,
+    n: i64,
+) -> Fit
+    requires { ⌜ Chosen (lent m d (now x) (now low) (now high)) i k n ⌝ }
+    ensures { λ f. ⌜ OverHigh (lent m d (now (x .entry)) (now (low .entry)) (now (high .entry))) i k n f ⌝ }
 {
-    chord(
-        input_at(g, i),
-        input_at(g, k),
-        high_at(g, i),
-        high_at(g, k),
-        n,
-        n,
-        g.d,
-    )
+    chord(through(x, high, i, k), n, n, d)
 }
 
 // The chord over the lowest values at i and k, moved half way up to a highest value between them.
-fn over_low(g: Band, i: usize, k: usize, n: i64) -> Fit
-    requires { ⌜ Chosen g i k n ⌝ }
-    ensures { λ f. ⌜ FitParts (pos 2 *ℤ (points g .low k -ℤ points g .low i)) (pos 2 *ℤ (points g .x k *ℤ points g .low i -ℤ points g .x i *ℤ points g .low k) -ℤ (pos 0 -ℤ n)) (pos 2 *ℤ (points g .x k -ℤ points g .x i) *ℤ pos (g .d)) n f ⌝ }
+fn over_low(
+    m: usize,
+    d: u64,
+    x: &[i64; 11],
+    low: &[i64; 11],
+    high: &[i64; 11],
+    i: usize,
+    k: usize,
+    n: i64,
+) -> Fit
+    requires { ⌜ Chosen (lent m d (now x) (now low) (now high)) i k n ⌝ }
+    ensures { λ f. ⌜ OverLow (lent m d (now (x .entry)) (now (low .entry)) (now (high .entry))) i k n f ⌝ }
 {
-    chord(
-        input_at(g, i),
-        input_at(g, k),
-        low_at(g, i),
-        low_at(g, k),
-        0 - n,
-        n,
-        g.d,
-    )
+    chord(through(x, low, i, k), 0 - n, n, d)
 }
 
-// The sum of the lowest and the highest value: twice the middle.
-fn double_middle(low: Sum, high: Sum) -> i64
-    requires { ⌜ Bounds (low .count ∷ high .count ∷ []) (most-v ∷ most-v ∷ []) ⌝ }
-    ensures value { λ r. ⌜ r ≡ low .count +ℤ high .count ⌝ }
-    ensures small { λ r. ⌜ natAbs r ≤ most-a ⌝ }
+// The line midway between the lines e and h over one gap of inputs, with the width w.
+fn midway(e: Ends, h: Ends, w: i64, d: u64) -> Fit
+    requires { ⌜ Bounds (e .a ∷ e .b ∷ e .s ∷ h .a ∷ h .b ∷ w ∷ pos d ∷ []) (most-a ∷ most-b ∷ most-gap ∷ most-a ∷ most-b ∷ most-a ∷ most-d ∷ []) ⌝ }
+    requires { ⌜ Over (e .s) w d ⌝ }
+    ensures { λ f. ⌜ FitParts (e .a +ℤ h .a) (e .b +ℤ h .b) (pos 2 *ℤ e .s *ℤ pos d) (w *ℤ e .s) f ⌝ }
 {
-    let u = low.count;
-    let v = high.count;
-    u + v
-}
-
-// The line through the middles at x and z, given doubled, with the gap w.
-fn pair(x: Input, z: Input, a: i64, c: i64, w: i64, d: u64) -> Fit
-    requires { ⌜ Bounds (x .count ∷ z .count ∷ a ∷ c ∷ w ∷ pos d ∷ []) (most-x ∷ most-x ∷ most-a ∷ most-a ∷ most-a ∷ most-d ∷ []) ⌝ }
-    requires { ⌜ Over (x .count) (z .count) w d ⌝ }
-    ensures { λ f. ⌜ FitParts (c -ℤ a) (z .count *ℤ a -ℤ x .count *ℤ c) (pos 2 *ℤ (z .count -ℤ x .count) *ℤ pos d) (w *ℤ (z .count -ℤ x .count)) f ⌝ }
-{
-    let p = x.count;
-    let q = z.count;
-    told(c - a, q * a - p * c, 2 * (q - p) * (d as i64), w * (q - p))
+    let a = e.a;
+    let b = e.b;
+    let s = e.s;
+    let u = h.a;
+    let v = h.b;
+    told(a + u, b + v, 2 * s * (d as i64), w * s)
 }
 
 // The line through the middles at i and j, where the gap of the values is the same.
-fn middles(g: Band, i: usize, j: usize) -> Fit
-    requires { ⌜ Admitted g × (i < j) × (j < g .m) ⌝ }
-    ensures { λ f. ⌜ PairParts (points g) i j f ⌝ }
+fn middles(
+    m: usize,
+    d: u64,
+    x: &[i64; 11],
+    low: &[i64; 11],
+    high: &[i64; 11],
+    i: usize,
+    j: usize,
+) -> Fit
+    requires { ⌜ Admitted (lent m d (now x) (now low) (now high)) × (i < j) × (j < m) ⌝ }
+    ensures { λ f. ⌜ PairParts (lent m d (now (x .entry)) (now (low .entry)) (now (high .entry))) i j f ⌝ }
 {
-    let low = low_at(g, i);
-    let high = high_at(g, i);
-    pair(
-        input_at(g, i),
-        input_at(g, j),
-        double_middle(low, high),
-        double_middle(low_at(g, j), high_at(g, j)),
-        gap(low, high),
-        g.d,
+    midway(
+        through(x, low, i, j),
+        through(x, high, i, j),
+        rise(part_at(low, i), part_at(high, i)),
+        d,
     )
 }
 
@@ -286,58 +262,89 @@ pub fn only(w: i64, d: u64) -> Wide
 }
 
 // An input that no chord reaches: one line, where another input has its gap.
-fn single(g: Band, top: Top, i: usize) -> Drawn
-    requires { ⌜ Admitted g × BestOf g 2673 top × (top .which ≡ Candidate.One i) ⌝ }
-    ensures { λ r. ⌜ BestDue g r ⌝ }
+fn single(
+    m: usize,
+    d: u64,
+    x: &[i64; 11],
+    low: &[i64; 11],
+    high: &[i64; 11],
+    top: Top,
+    i: usize,
+) -> Drawn
+    requires { ⌜ Admitted (lent m d (now x) (now low) (now high)) × Greatest (lent m d (now x) (now low) (now high)) top × (top .which ≡ Candidate.One i) ⌝ }
+    ensures { λ r. ⌜ BestDue (lent m d (now (x .entry)) (now (low .entry)) (now (high .entry))) r ⌝ }
 {
-    let j = twin(g, i);
-    let m = g.m;
+    let j = search::twin(m, d, x, low, high, i);
     if j == m {
-        return Drawn::Several(only(top.num, g.d));
+        return Drawn::Several(only(top.num, d));
     }
     if i < j {
-        Drawn::Line(middles(g, i, j))
+        Drawn::Line(middles(m, d, x, low, high, i, j))
     } else {
-        Drawn::Line(middles(g, j, i))
+        Drawn::Line(middles(m, d, x, low, high, j, i))
+    }
+}
+
+// The line of least largest deviation, of points that are known to be admitted.
+pub fn best_of(m: usize, d: u64, x: &[i64; 11], low: &[i64; 11], high: &[i64; 11]) -> Drawn
+    requires { ⌜ Admitted (lent m d (now x) (now low) (now high)) ⌝ }
+    ensures { λ r. ⌜ BestDue (lent m d (now (x .entry)) (now (low .entry)) (now (high .entry))) r ⌝ }
+{
+    let top = search::greatest(m, d, x, low, high);
+    let which = top.which;
+    match which {
+        Candidate::One(i) => single(m, d, x, low, high, top, i),
+        Candidate::Up(i, _, k) => Drawn::Line(over_high(m, d, x, low, high, i, k, top.num)),
+        Candidate::Down(i, _, k) => Drawn::Line(over_low(m, d, x, low, high, i, k, top.num)),
     }
 }
 
 // The line of least largest deviation.
-pub fn best(g: Band) -> Drawn
-    ensures { λ r. ⌜ BestDue g r ⌝ }
+pub fn best(m: usize, d: u64, x: &[i64; 11], low: &[i64; 11], high: &[i64; 11]) -> Drawn
+    ensures { λ r. ⌜ BestDue (lent m d (now (x .entry)) (now (low .entry)) (now (high .entry))) r ⌝ }
 {
-    if !is_admitted(g) {
+    if !band::is_admitted(m, d, x, low, high) {
         return Drawn::Improper;
     }
-    let top = greatest(g);
-    let which = top.which;
-    match which {
-        Candidate::One(i) => single(g, top, i),
-        Candidate::Up(i, _, k) => Drawn::Line(over_high(g, i, k, top.num)),
-        Candidate::Down(i, _, k) => Drawn::Line(over_low(g, i, k, top.num)),
-    }
+    best_of(m, d, x, low, high)
 }
 
-// The terminal line, through the first and the last point.
-pub fn terminal(g: Band) -> Drawn
-    ensures { λ r. ⌜ TerminalDue g r ⌝ }
+// The terminal line, through the first and the last point, of points that are known to be admitted, with one value at each input.
+pub fn terminal_of(m: usize, d: u64, x: &[i64; 11], low: &[i64; 11], high: &[i64; 11]) -> Fit
+    requires { ⌜ Admitted (lent m d (now x) (now low) (now high)) × OneValue (lent m d (now x) (now low) (now high)) ⌝ }
+    ensures { λ f. ⌜ TheTerminal (lent m d (now (x .entry)) (now (low .entry)) (now (high .entry))) f ⌝ }
 {
-    if !is_drawn(g) {
+    let e = through(x, low, 0, m - 1);
+    let r = spread_of(m, d, x, low, high, e);
+    plain(e, r, d)
+}
+
+// The terminal line.
+pub fn terminal(m: usize, d: u64, x: &[i64; 11], low: &[i64; 11], high: &[i64; 11]) -> Drawn
+    ensures { λ r. ⌜ TerminalDue (lent m d (now (x .entry)) (now (low .entry)) (now (high .entry))) r ⌝ }
+{
+    if !band::is_drawn(m, d, x, low, high) {
         return Drawn::Improper;
     }
-    let e = outer(g);
-    let r = spread_of(g, e);
-    Drawn::Line(plain(e, r, g.d))
+    Drawn::Line(terminal_of(m, d, x, low, high))
+}
+
+// The shifted terminal line, of points that are known to be admitted, with one value at each input.
+pub fn shifted_of(m: usize, d: u64, x: &[i64; 11], low: &[i64; 11], high: &[i64; 11]) -> Fit
+    requires { ⌜ Admitted (lent m d (now x) (now low) (now high)) × OneValue (lent m d (now x) (now low) (now high)) ⌝ }
+    ensures { λ f. ⌜ TheShifted (lent m d (now (x .entry)) (now (low .entry)) (now (high .entry))) f ⌝ }
+{
+    let e = through(x, low, 0, m - 1);
+    let r = spread_of(m, d, x, low, high, e);
+    centred(e, r, d)
 }
 
 // The shifted terminal line.
-pub fn shifted(g: Band) -> Drawn
-    ensures { λ r. ⌜ ShiftedDue g r ⌝ }
+pub fn shifted(m: usize, d: u64, x: &[i64; 11], low: &[i64; 11], high: &[i64; 11]) -> Drawn
+    ensures { λ r. ⌜ ShiftedDue (lent m d (now (x .entry)) (now (low .entry)) (now (high .entry))) r ⌝ }
 {
-    if !is_drawn(g) {
+    if !band::is_drawn(m, d, x, low, high) {
         return Drawn::Improper;
     }
-    let e = outer(g);
-    let r = spread_of(g, e);
-    Drawn::Line(centred(e, r, g.d))
+    Drawn::Line(shifted_of(m, d, x, low, high))
 }

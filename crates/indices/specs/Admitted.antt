@@ -14,10 +14,9 @@ use Rattle.run.specs.Checked.{Checked}
 use Rattle.run.specs.declared.Run.{Run}
 use Rattle.groups.specs.Sums.{up-sum, down-sum, limit}
 use Rattle.groups.specs.Limit.{total-size, limit-most}
-use Rattle.band.specs.Line.{Points, Proper}
-use Rattle.band.specs.Band.{points, most-x, most-v, most-d, Admitted, Level}
-use Rattle.band.specs.declared.Band.{Band}
-use Rattle.fit.specs.Greater.{smaller, smaller-left, greater-left, greater-size}
+use Rattle.band.specs.Line.{Points, Proper, OneValue}
+use Rattle.band.specs.Band.{most-x, most-v, most-d, Admitted}
+use Rattle.whole.specs.Greater.{smaller, smaller-left, greater-left, greater-size}
 use Rattle.bands.specs.Through.{means, two-valued}
 use Rattle.bands.specs.Parts.{through, Cycles, SamePoints}
 use Rattle.bands.specs.declared.Through.{Through}
@@ -54,14 +53,6 @@ module _ {r : Run} (c : Checked r) where
   proper-through lines.Limits = two-proper (lower r) (upper r)
 
 -- ---- sizes
-record Sized (P : Points) : Type 0 where
-  three : 3 ≤ P .m
-  eleven : P .m ≤ 11
-  unit : P .d ≤ most-d
-  inputs : (i : ℕ) → i < P .m → natAbs (P .x i) ≤ most-x
-  lows : (i : ℕ) → i < P .m → natAbs (P .low i) ≤ most-v
-  highs : (i : ℕ) → i < P .m → natAbs (P .high i) ≤ most-v
-
 smaller-size : (a b : ℤ) (n : ℕ) → natAbs a ≤ n → natAbs b ≤ n → natAbs (smaller a b) ≤ n
 smaller-size a b n h i = cond-ind (ltZ a b) a b (λ z. natAbs z ≤ n) (λ t. h) (λ t. i)
 
@@ -72,8 +63,9 @@ module _ {r : Run} (c : Checked r) where
   down-size : (i : ℕ) → i < r .m → natAbs (down-sum r i) ≤ 10000000
   down-size i h = total-size c 1 i (omega arith) h
 
-  two-sized : (f g : ℕ → ℤ) → ((i : ℕ) → i < r .m → natAbs (f i) ≤ most-v) → ((i : ℕ) → i < r .m → natAbs (g i) ≤ most-v) → Sized (two-valued r f g)
+  two-sized : (f g : ℕ → ℤ) → ((i : ℕ) → i < r .m → natAbs (f i) ≤ most-v) → ((i : ℕ) → i < r .m → natAbs (g i) ≤ most-v) → Admitted (two-valued r f g)
   two-sized f g hf hg = record {
+    proper = two-proper c f g;
     three = c .m-least;
     eleven = c .m-most;
     unit = omega arith;
@@ -82,23 +74,23 @@ module _ {r : Run} (c : Checked r) where
     highs = λ i h. greater-size (f i) (g i) most-v (hf i h) (hg i h);
   }
 
-  sized : (t : Through) → Sized (through t r)
-  sized lines.Means =
+  pub admitted-through : (t : Through) → Admitted (through t r)
+  admitted-through lines.Means =
       let most : (i : ℕ) → i < r .m → natAbs (up-sum r i +ℤ down-sum r i) ≤ most-v = λ i h. omega (arith, size-add (up-sum r i) (down-sum r i) 10000000 10000000 (up-size i h) (down-size i h)) in
-      record { three = c .m-least; eleven = c .m-most; unit = omega arith; inputs = c .inputs; lows = most; highs = most }
-  sized lines.Strokes = two-sized (up-sum r) (down-sum r) (λ i h. omega (arith, up-size i h)) (λ i h. omega (arith, down-size i h))
-  sized lines.Limits =
+      record { proper = proper-means c; three = c .m-least; eleven = c .m-most; unit = omega arith; inputs = c .inputs; lows = most; highs = most }
+  admitted-through lines.Strokes = two-sized (up-sum r) (down-sum r) (λ i h. omega (arith, up-size i h)) (λ i h. omega (arith, down-size i h))
+  admitted-through lines.Limits =
       two-sized (lower r) (upper r)
       (λ i h. omega (arith, size-sub (up-sum r i) (pos (limit r 0 i)) 10000000 179690 (up-size i h) (limit-most r 0 i)))
       (λ i h. omega (arith, size-add (down-sum r i) (pos (limit r 1 i)) 10000000 179690 (down-size i h) (limit-most r 1 i)))
 
 -- ---- bands
-pub admitted : {g : Band} {r : Run} → Checked r → (t : Through) → Cycles t r → SamePoints (points g) (through t r) → Admitted g
-admitted {g} {r} c t _ e =
-    let s = sized c t in
-    let within : (i : ℕ) → i < g .m → i < through t r .m = λ i h. omega arith in
+pub admitted : {P : Points} {r : Run} → Checked r → (t : Through) → Cycles t r → SamePoints P (through t r) → Admitted P
+admitted {P} {r} c t _ e =
+    let s = admitted-through c t in
+    let within : (i : ℕ) → i < P .m → i < through t r .m = λ i h. omega arith in
     record {
-      proper = proper-points (same-points-sym e) (proper-through c t);
+      proper = proper-points (same-points-sym e) (s .proper);
       three = omega arith;
       eleven = omega arith;
       unit = omega arith;
@@ -108,5 +100,5 @@ admitted {g} {r} c t _ e =
     }
 
 -- one value at each input
-pub level-means : (g : Band) (r : Run) → SamePoints (points g) (means r) → Level g
-level-means g r e i h = let k : i < r .m = omega arith in e .low i k ∙ sym (e .high i k)
+pub level-means : (P : Points) (r : Run) → SamePoints P (means r) → OneValue P
+level-means P r e i h = let k : i < r .m = omega arith in e .low i k ∙ sym (e .high i k)

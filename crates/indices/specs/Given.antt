@@ -14,10 +14,9 @@ use Rattle.groups.specs.Limit.{total-size, limit-most}
 use Rattle.band.specs.Line.{Line, Points, All, Terminal}
 use Rattle.band.specs.Same.{same-written}
 use Rattle.band.specs.Terminal.{terminal-line, terminal-some, terminal}
-use Rattle.band.specs.Band.{points, Admitted}
-use Rattle.band.specs.declared.Band.{Band}
+use Rattle.band.specs.Band.{Admitted}
 use Rattle.fit.specs.Answer.{line-of, TheLine, OnlyWidth, BestDue, TerminalDue, ShiftedDue}
-use Rattle.fit.specs.Greater.{greater-size}
+use Rattle.whole.specs.Greater.{greater-size}
 use Rattle.fit.specs.Once.{level-single}
 use Rattle.fit.specs.declared.Fit.{Fit}
 use Rattle.fit.specs.declared.Wide.{Wide}
@@ -39,30 +38,30 @@ use Rattle.indices.specs.declared.Index.{Index}
 use Rattle.indices.specs.declared.Index.the-variants as index
 
 -- ---- the terminal line
-pub terminal-given : (g : Band) (d : Drawn) {r : Run} {a : Answer} → Checked r → SamePoints (points g) (means r) → TerminalDue g d → OwnWidth d (span r) a → Given index.Terminal r a
-terminal-given g (drawn.Line f) c e due own =
+pub terminal-given : (P : Points) (d : Drawn) {r : Run} {a : Answer} → Checked r → SamePoints P (means r) → TerminalDue P d → OwnWidth d (span r) a → Given index.Terminal r a
+terminal-given P (drawn.Line f) c e due own =
     let t = due .2 in
     one-line (line-of f (t .told .some)) (natAbs (f .w)) (f .q) (t .told .some) (terminal-points e (omega arith) (t .ends), largest-points e (t .largest)) (own-stands (t .told) own)
-terminal-given g (drawn.Several h) c e due own = absurd due
-terminal-given g drawn.Improper {r} c e due own = absurd (due (admitted c lines.Means tt e) (level-means g r e))
+terminal-given P (drawn.Several h) c e due own = absurd due
+terminal-given P drawn.Improper {r} c e due own = absurd (due (admitted c lines.Means tt e) (level-means P r e))
 
 -- an admitted band has one
-abbrev ends : {g : Band} → Admitted g → Line
-ends {g} a = terminal-line (points g) (terminal-some (a .proper))
+abbrev ends : {P : Points} → Admitted P → Line
+ends {P} a = terminal-line P (terminal-some (a .proper))
 
-ends-terminal : {g : Band} (a : Admitted g) → Terminal (points g) (ends a)
+ends-terminal : {P : Points} (a : Admitted P) → Terminal P (ends a)
 ends-terminal a = terminal (a .proper) (terminal-some (a .proper))
 
-pub shifted-given : (g : Band) (d : Drawn) {r : Run} {a : Answer} → Checked r → SamePoints (points g) (means r) → ShiftedDue g d → OwnWidth d (span r) a → Given index.Shifted r a
-shifted-given g (drawn.Line f) c e due own =
-    let told = due .2 (ends (due .0)) (ends-terminal (due .0)) .told in
+pub shifted-given : (P : Points) (d : Drawn) {r : Run} {a : Answer} → Checked r → SamePoints P (means r) → ShiftedDue P d → OwnWidth d (span r) a → Given index.Shifted r a
+shifted-given P (drawn.Line f) c e due own =
+    let told = due .2 .line (ends (due .0)) (ends-terminal (due .0)) .told in
     one-line (line-of f (told .some)) (natAbs (f .w)) (f .q) (told .some)
     (λ T t.
-    let line = due .2 T (terminal-points (same-points-sym e) (omega arith) t) in
+    let line = due .2 .line T (terminal-points (same-points-sym e) (omega arith) t) in
     best-same (same-written refl refl refl) (line .member) (best-points e line))
     (own-stands told own)
-shifted-given g (drawn.Several h) c e due own = absurd due
-shifted-given g drawn.Improper {r} c e due own = absurd (due (admitted c lines.Means tt e) (level-means g r e))
+shifted-given P (drawn.Several h) c e due own = absurd due
+shifted-given P drawn.Improper {r} c e due own = absurd (due (admitted c lines.Means tt e) (level-means P r e))
 
 -- ---- the best lines
 -- one line reaches the width
@@ -83,15 +82,15 @@ fits-best lines.Strokes r b = b
 fits-best lines.Limits r b = b
 
 -- T has one value at each input, so that its line is single
-many-fit : (t : Through) (g : Band) (r : Run) {h : Wide} → SamePoints (points g) (through t r) → BestDue g (drawn.Several h) → SeveralFit (best-index t) r (natAbs (h .w)) (h .q)
-many-fit lines.Means g r {h} e due = absurd (level-single g (level-means g r e) h due)
-many-fit lines.Strokes g r e due = many-points e (due .1)
-many-fit lines.Limits g r e due = many-points e (due .1)
+many-fit : (t : Through) (P : Points) (r : Run) {h : Wide} → SamePoints P (through t r) → BestDue P (drawn.Several h) → SeveralFit (best-index t) r (natAbs (h .w)) (h .q)
+many-fit lines.Means P r {h} e due = absurd (level-single P (level-means P r e) h due)
+many-fit lines.Strokes P r e due = many-points e (due .1)
+many-fit lines.Limits P r e due = many-points e (due .1)
 
-pub best-given : (t : Through) (g : Band) (d : Drawn) {r : Run} {a : Answer} → Checked r → Cycles t r → SamePoints (points g) (through t r) → BestDue g d → OwnWidth d (span r) a → Given (best-index t) r a
-best-given t g (drawn.Line f) {r} c n e due own = line-given (due .1) (fits-best t r (best-points e (due .1))) own
-best-given t g (drawn.Several h) {r} c n e due own = several-given (due .1) (many-fit t g r e due) own
-best-given t g drawn.Improper c n e due own = absurd (due (admitted c t n e))
+pub best-given : (t : Through) (P : Points) (d : Drawn) {r : Run} {a : Answer} → Checked r → Cycles t r → SamePoints P (through t r) → BestDue P d → OwnWidth d (span r) a → Given (best-index t) r a
+best-given t P (drawn.Line f) {r} c n e due own = line-given (due .1) (fits-best t r (best-points e (due .1))) own
+best-given t P (drawn.Several h) {r} c n e due own = several-given (due .1) (many-fit t P r e due) own
+best-given t P drawn.Improper c n e due own = absurd (due (admitted c t n e))
 
 -- ---- a width that is no line's, with the independent line
 fits-wide : (k : Width) (r : Run) {L : Line} {w : ℕ} → Independent r L → LargestOf (r .m) (width-at k r) w → Fits (wide-index k) r L w (r .n)
@@ -106,30 +105,25 @@ width-most widths.Scatter {r} c i h = greater-size (pos (limit r 0 i)) (pos (lim
 pub widest-most : (k : Width) {r : Run} {w : ℕ} → Checked r → LargestOf (r .m) (width-at k r) w → w ≤ 20000000
 widest-most k {r} c l = subst (λ (w : ℕ). w ≤ 20000000) (l .reached) (width-most k c (l .place) (l .within))
 
-pub wide-given : (k : Width) (g : Band) (d : Drawn) {r : Run} {a : Answer} → Checked r → SamePoints (points g) (means r) → BestDue g d → {v : ℤ} → pos 0 ≤ℤ v → LargestOf (r .m) (width-at k r) (natAbs v) → OtherWidth d v (r .n) (span r) a → Given (wide-index k) r a
-wide-given k g (drawn.Line f) {r} c e due {v} sign l other =
+pub wide-given : (k : Width) (P : Points) (d : Drawn) {r : Run} {a : Answer} → Checked r → SamePoints P (means r) → BestDue P d → {v : ℤ} → pos 0 ≤ℤ v → LargestOf (r .m) (width-at k r) (natAbs v) → OtherWidth d v (r .n) (span r) a → Given (wide-index k) r a
+wide-given k P (drawn.Line f) {r} c e due {v} sign l other =
     let line = due .1 in
     one-line (line-of f (line .told .some)) (natAbs v) (r .n) (c .n-least) (fits-wide k r (independent-points e line) l) (other-stands (line .told) sign other)
-wide-given k g (drawn.Several h) {r} c e due sign l other = absurd (level-single g (level-means g r e) h due)
-wide-given k g drawn.Improper c e due sign l other = absurd (due (admitted c lines.Means tt e))
+wide-given k P (drawn.Several h) {r} c e due sign l other = absurd (level-single P (level-means P r e) h due)
+wide-given k P drawn.Improper c e due sign l other = absurd (due (admitted c lines.Means tt e))
 
 -- ---- what is known of a line before it is answered with
-pub own-ready-terminal : (g : Band) (d : Drawn) → TerminalDue g d → OwnReady d
-own-ready-terminal g (drawn.Line f) due = due .2 .told
-own-ready-terminal g (drawn.Several h) due = tt
-own-ready-terminal g drawn.Improper due = tt
+pub own-ready-shifted : (P : Points) (d : Drawn) → ShiftedDue P d → OwnReady d
+own-ready-shifted P (drawn.Line f) due = due .2 .line (ends (due .0)) (ends-terminal (due .0)) .told
+own-ready-shifted P (drawn.Several h) due = tt
+own-ready-shifted P drawn.Improper due = tt
 
-pub own-ready-shifted : (g : Band) (d : Drawn) → ShiftedDue g d → OwnReady d
-own-ready-shifted g (drawn.Line f) due = due .2 (ends (due .0)) (ends-terminal (due .0)) .told
-own-ready-shifted g (drawn.Several h) due = tt
-own-ready-shifted g drawn.Improper due = tt
+pub own-ready-best : (P : Points) (d : Drawn) → BestDue P d → OwnReady d
+own-ready-best P (drawn.Line f) due = due .1 .told
+own-ready-best P (drawn.Several h) due = tt
+own-ready-best P drawn.Improper due = tt
 
-pub own-ready-best : (g : Band) (d : Drawn) → BestDue g d → OwnReady d
-own-ready-best g (drawn.Line f) due = due .1 .told
-own-ready-best g (drawn.Several h) due = tt
-own-ready-best g drawn.Improper due = tt
-
-pub other-ready : (g : Band) (d : Drawn) {r : Run} → Checked r → SamePoints (points g) (means r) → BestDue g d → OtherReady d
-other-ready g (drawn.Line f) c e due = (due .1 .told, omega (arith, due .1 .unit, e .d))
-other-ready g (drawn.Several h) c e due = tt
-other-ready g drawn.Improper c e due = tt
+pub other-ready : (P : Points) (d : Drawn) {r : Run} → Checked r → SamePoints P (means r) → BestDue P d → OtherReady d
+other-ready P (drawn.Line f) c e due = (due .1 .told, omega (arith, due .1 .unit, e .d))
+other-ready P (drawn.Several h) c e due = tt
+other-ready P drawn.Improper c e due = tt

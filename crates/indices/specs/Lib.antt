@@ -6,3 +6,5 @@ pub mod Standing
 pub mod Given
 pub mod Pinned
 pub mod Once
+pub mod Nine
+pub mod Basis

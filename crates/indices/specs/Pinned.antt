@@ -10,8 +10,7 @@ use Rattle.whole.specs.Sign.{NonNeg, le-or-gt}
 use Rattle.run.specs.Run.{input}
 use Rattle.run.specs.Checked.{Checked}
 use Rattle.run.specs.declared.Run.{Run}
-use Rattle.band.specs.Band.{points}
-use Rattle.band.specs.declared.Band.{Band}
+use Rattle.band.specs.Line.{Points}
 use Rattle.fit.specs.declared.Drawn.{Drawn}
 use Rattle.fit.specs.declared.Drawn.the-variants as drawn
 use Rattle.pin.specs.Answer.{NoNegative, ZeroDue, FrontDue}
@@ -41,26 +40,26 @@ pub not-negative : {r : Run} → (BelowZero index.Zero r → ⊥) → NoNegative
 not-negative {r} none i h = ⊎-elim (λ l. l) (λ l. absurd (none (record { asked = tt; at = i; within = h; negative = l }))) (le-or-gt (pos 0) (input r i))
 
 -- ---- the zero-based line
-band-not-negative : (g : Band) (r : Run) → (BelowZero index.Zero r → ⊥) → SamePoints (points g) (means r) → NoNegative (points g)
-band-not-negative g r none e i h = let k : i < r .m = omega arith in subst NonNeg (sym (e .x i k)) (not-negative none i k)
+pub band-not-negative : (P : Points) (r : Run) → (BelowZero index.Zero r → ⊥) → SamePoints P (means r) → NoNegative P
+band-not-negative P r none e i h = let k : i < r .m = omega arith in subst NonNeg (sym (e .x i k)) (not-negative none i k)
 
-pub zero-given : (g : Band) (d : Drawn) {r : Run} {a : Answer} → Checked r → (BelowZero index.Zero r → ⊥) → SamePoints (points g) (means r) → ZeroDue g d → OwnWidth d (span r) a → Given index.Zero r a
-zero-given g (drawn.Line f) c n e due own = line-given (due .3) (best-family (zero-points e) (zero-points (same-points-sym e)) (best-points e (due .3))) own
-zero-given g (drawn.Several h) c n e due own = several-given (due .3) (many-family (zero-points e) (zero-points (same-points-sym e)) (many-points e (due .3))) own
-zero-given g drawn.Improper {r} c n e due own = absurd (due (admitted c lines.Means tt e) (level-means g r e) (band-not-negative g r n e))
+pub zero-given : (P : Points) (d : Drawn) {r : Run} {a : Answer} → Checked r → (BelowZero index.Zero r → ⊥) → SamePoints P (means r) → ZeroDue P d → OwnWidth d (span r) a → Given index.Zero r a
+zero-given P (drawn.Line f) c n e due own = line-given (due .3) (best-family (zero-points e) (zero-points (same-points-sym e)) (best-points e (due .3))) own
+zero-given P (drawn.Several h) c n e due own = several-given (due .3) (many-family (zero-points e) (zero-points (same-points-sym e)) (many-points e (due .3))) own
+zero-given P drawn.Improper {r} c n e due own = absurd (due (admitted c lines.Means tt e) (level-means P r e) (band-not-negative P r n e))
 
-pub own-ready-zero : (g : Band) (d : Drawn) → ZeroDue g d → OwnReady d
-own-ready-zero g (drawn.Line f) due = due .3 .told
-own-ready-zero g (drawn.Several h) due = tt
-own-ready-zero g drawn.Improper due = tt
+pub own-ready-zero : (P : Points) (d : Drawn) → ZeroDue P d → OwnReady d
+own-ready-zero P (drawn.Line f) due = due .3 .told
+own-ready-zero P (drawn.Several h) due = tt
+own-ready-zero P drawn.Improper due = tt
 
 -- ---- the front terminal-based line
-pub front-given : (g : Band) (d : Drawn) {r : Run} {a : Answer} → Checked r → SamePoints (points g) (means r) → FrontDue g d → OwnWidth d (span r) a → Given index.Front r a
-front-given g (drawn.Line f) {r} c e due own = line-given (due .2) (best-family (front-points e (omega arith)) (front-points (same-points-sym e) (omega arith)) (best-points e (due .2))) own
-front-given g (drawn.Several h) c e due own = absurd due
-front-given g drawn.Improper {r} c e due own = absurd (due (admitted c lines.Means tt e) (level-means g r e))
+pub front-given : (P : Points) (d : Drawn) {r : Run} {a : Answer} → Checked r → SamePoints P (means r) → FrontDue P d → OwnWidth d (span r) a → Given index.Front r a
+front-given P (drawn.Line f) {r} c e due own = line-given (due .2) (best-family (front-points e (omega arith)) (front-points (same-points-sym e) (omega arith)) (best-points e (due .2))) own
+front-given P (drawn.Several h) c e due own = absurd due
+front-given P drawn.Improper {r} c e due own = absurd (due (admitted c lines.Means tt e) (level-means P r e))
 
-pub own-ready-front : (g : Band) (d : Drawn) → FrontDue g d → OwnReady d
-own-ready-front g (drawn.Line f) due = due .2 .told
-own-ready-front g (drawn.Several h) due = tt
-own-ready-front g drawn.Improper due = tt
+pub own-ready-front : (P : Points) (d : Drawn) → FrontDue P d → OwnReady d
+own-ready-front P (drawn.Line f) due = due .2 .told
+own-ready-front P (drawn.Several h) due = tt
+own-ready-front P drawn.Improper due = tt

@@ -2,62 +2,65 @@
 //
 // Standard input holds bands, each of numbers of 8 bytes, low byte first: m and d, then 11 inputs, 11 lowest and 11 highest values, each of these more by 2 to the 63rd.
 // For each band five lines are printed, `terminal`, `shifted`, `best`, `zero` and `front`: width, slope and offset, or `several` and the width, or `improper`.
-use band::Band;
 use fit::Drawn;
 use fit::Fit;
-use libc::STDOUT_FILENO;
 use trial::Next;
-use units::Sum;
+use trial::Page;
 
 // More bands than this are not read: a loop has to end.
 const MOST: u32 = 1000000;
 
-fn next_sums() -> [Sum; 11] {
-    let mut v = [Sum { count: 0 }; 11];
+fn next_counts() -> [i64; 11] {
+    let mut v = [0; 11];
     let mut i = 0;
     while i < 11 {
-        v[i] = Sum {
-            count: trial::next_signed(),
-        };
+        v[i] = trial::next_signed();
         i += 1;
     }
     v
 }
 
-fn print_fit(f: Fit) {
-    trial::print_fraction(f.width);
-    trial::print_space();
-    trial::print_fraction(f.slope);
-    trial::print_space();
-    trial::print_fraction(f.offset);
+fn put_fit(page: &mut Page, at: &mut usize, f: Fit) {
+    trial::put_fraction(page, at, f.width);
+    trial::put_space(page, at);
+    trial::put_fraction(page, at, f.slope);
+    trial::put_space(page, at);
+    trial::put_fraction(page, at, f.offset);
 }
 
-fn print_drawn(r: Drawn) {
-    trial::print_space();
+fn put_drawn(page: &mut Page, at: &mut usize, name: &[u8], r: Drawn) {
+    trial::put_bytes(page, at, name);
+    trial::put_space(page, at);
     match r {
-        Drawn::Line(f) => print_fit(f),
+        Drawn::Line(f) => put_fit(page, at, f),
         Drawn::Several(h) => {
-            io::write_all(STDOUT_FILENO, b"several ");
-            trial::print_fraction(h.width);
+            trial::put_bytes(page, at, b"several ");
+            trial::put_fraction(page, at, h.width);
         }
-        Drawn::Improper => {
-            io::write_all(STDOUT_FILENO, b"improper");
-        }
+        Drawn::Improper => trial::put_bytes(page, at, b"improper"),
     }
-    trial::print_line_end();
+    trial::put_line_end(page, at);
 }
 
-fn print_lines(g: Band) {
-    io::write_all(STDOUT_FILENO, b"terminal");
-    print_drawn(fit::terminal(g));
-    io::write_all(STDOUT_FILENO, b"shifted");
-    print_drawn(fit::shifted(g));
-    io::write_all(STDOUT_FILENO, b"best");
-    print_drawn(fit::best(g));
-    io::write_all(STDOUT_FILENO, b"zero");
-    print_drawn(pin::zero(g));
-    io::write_all(STDOUT_FILENO, b"front");
-    print_drawn(pin::front(g));
+fn print_lines(m: usize, d: u64, x: &[i64; 11], low: &[i64; 11], high: &[i64; 11]) {
+    let mut page = trial::empty_page();
+    let mut at = 0;
+    put_drawn(
+        &mut page,
+        &mut at,
+        b"terminal",
+        fit::terminal(m, d, x, low, high),
+    );
+    put_drawn(
+        &mut page,
+        &mut at,
+        b"shifted",
+        fit::shifted(m, d, x, low, high),
+    );
+    put_drawn(&mut page, &mut at, b"best", fit::best(m, d, x, low, high));
+    put_drawn(&mut page, &mut at, b"zero", pin::zero(m, d, x, low, high));
+    put_drawn(&mut page, &mut at, b"front", pin::front(m, d, x, low, high));
+    trial::print_page(&page, at);
 }
 
 // Reads a band and prints its lines; false where none is left.
@@ -66,16 +69,10 @@ fn draw() -> bool {
         return false;
     };
     let d = trial::next_or_zero();
-    let x = trial::next_inputs();
-    let low = next_sums();
-    let high = next_sums();
-    print_lines(Band {
-        m: m as usize,
-        d,
-        x,
-        low,
-        high,
-    });
+    let x = next_counts();
+    let low = next_counts();
+    let high = next_counts();
+    print_lines(m as usize, d, &x, &low, &high);
     true
 }
 

@@ -16,7 +16,7 @@ use Rattle.whole.specs.Size.{size-of, size-by, size-neg}
 use Rattle.band.specs.Line.{Line, Points, Proper, off, Passing, Within, Single}
 use Rattle.band.specs.Seen.{offE}
 use Rattle.band.specs.Same.{agree-by, agree-twice, agree-passing}
-use Rattle.pin.specs.Pair.{ahead, rise, num, den, Fits, Greatest, Beyond, wide, part, pair-line}
+use Rattle.pin.specs.Pair.{ahead, rise, num, den, Fits, Beyond, wide, part, pair-line}
 
 -- inputs that rise from x lie beyond it
 pub beyond-first : {P : Points} {x : ℤ} → Proper P → x ≤ℤ P .x 0 → Beyond P x
@@ -31,7 +31,7 @@ module _ {P : Points} {x : ℤ} {i j : ℕ} (f : Fits P x i j) where
   pub den-is : pos (natAbs (den P x i j)) ≡ den P x i j
   den-is = nat-nonneg (weaken den-positive)
 
-  flipped : Fits P x j i
+  pub flipped : Fits P x j i
   flipped = record { i-fits = f .j-fits; j-fits = f .i-fits; i-ahead = f .j-ahead; j-ahead = f .i-ahead }
 
 part-flip : (P : Points) (x : ℤ) (i j : ℕ) → part P x j i ≡ part P x i j
@@ -131,11 +131,3 @@ module _ {P : Points} (proper : Proper P) {x : ℤ} where
 
       other : w * part P x j i ≤ wide P x v j i * z
       other = omega (arith, ap (λ (t : ℕ). w * t) (part-flip P x i j), ap (λ (t : ℕ). t * z) (ap natAbs (num-flip P x v i j) ∙ size-neg (num P x v i j)))
-
-  -- the greatest fraction is not negative, since that of an input with itself is 0
-  pub num-sign : {v : ℤ} {i j : ℕ} → Greatest P x v i j → pos 0 ≤ℤ num P x v i j
-  num-sign {v} {i} {j} g =
-      let h = g .fits in
-      let twice : Fits P x i i = record { i-fits = h .i-fits; j-fits = h .i-fits; i-ahead = h .i-ahead; j-ahead = h .i-ahead } in
-      cancel-le (den-positive twice)
-      (subst NonNeg (ring (num P x v i j ∷ ahead P x i ∷ rise P v i ∷ den P x i j ∷ []) (var 0 ⊗ (var 1 ⊕ var 1) ⊖ (var 2 ⊗ var 1 ⊖ var 2 ⊗ var 1) ⊗ var 3) ((var 1 ⊕ var 1) ⊗ var 0) tt) (le-sign (g .all i i twice)))

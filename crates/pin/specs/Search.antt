@@ -1,17 +1,17 @@
--- The search for the greatest pair: the order in which pairs are tried, and what is known of the best so far. Method: no public statement cites this file.
+-- The search for the greatest pair, and what is known of the best one so far. Method: no public statement cites this file.
 use mathlib.Core.Path.{_≡_}
-use mathlib.Core.Bool.{Bool, _&&_}
-use Prim.Native.Nat.{ℕ, _/_, _%_, _<_, _≤_}
-use lib.Dec.{T, ltb}
-use lib.IntN.{ℤ, pos, natAbs}
-use lib.Signed.{ltZ}
+use mathlib.Core.Bool.{cond}
+use Prim.Native.Nat.{ℕ, _<_, _≤_}
+use lib.IntN.{ℤ, pos, natAbs, _+ℤ_, _-ℤ_, _*ℤ_}
+use lib.Signed.{_≤ℤ_, _<ℤ_, ltZ}
 use Rattle.band.specs.Line.{Points, Passing}
 use Rattle.band.specs.Band.{most-x, most-v, Admitted}
-use Rattle.band.specs.declared.Band.{Band}
 use Rattle.fit.specs.Answer.{TheLine, OnlyWidth}
+use Rattle.fit.specs.Parts.{FitParts}
+use Rattle.fit.specs.declared.Fit.{Fit}
 use Rattle.fit.specs.declared.Drawn.{Drawn}
 use Rattle.fit.specs.declared.Drawn.the-variants as drawn
-use Rattle.pin.specs.Pair.{ahead, rise, num, den, Fits, AtMost}
+use Rattle.pin.specs.Pair.{rise, num, den, Fits, AtMost, Greatest}
 use Rattle.pin.specs.declared.Pair.{Pair}
 use Rattle.pin.specs.declared.Pin.{Pin}
 
@@ -22,34 +22,73 @@ most-num = 24720000000000
 abbrev pub most-den : ℕ
 most-den = 120000
 
--- an input beyond x
-abbrev pub is-ahead : Points → (x : ℤ) → ℕ → Bool
-is-ahead P x i = ltb i (P .m) && ltZ (pos 0) (ahead P x i)
-
--- pair t: two inputs as digits to the base 11
-abbrev pub among : Points → (x : ℤ) → ℕ → Bool
-among P x t = is-ahead P x (t / 11) && is-ahead P x (t % 11)
-
 -- what a fixed point may be: of bounded size
-pub record Ready (g : Band) (p : Pin) : Type 0 where
-  pub admitted : Admitted g
+pub record Ready (P : Points) (p : Pin) : Type 0 where
+  pub admitted : Admitted P
   pub x-most : natAbs (p .x .count) ≤ most-x
   pub v-most : natAbs (p .v .count) ≤ most-v
 
--- t is the pair i, j with its fraction
-pub record Paired (P : Points) (p : Pin) (i j : ℕ) (t : Pair) : Type 0 where
-  pub i-is : t .i ≡ i
-  pub j-is : t .j ≡ j
-  pub num-is : t .num ≡ num P (p .x .count) (p .v .count) i j
-  pub den-is : t .den ≡ den P (p .x .count) i j
+-- the inputs beyond x are those from n on
+pub record Start (P : Points) (x : ℤ) (n : ℕ) : Type 0 where
+  pub most : n ≤ 1
+  pub before : (k : ℕ) → k < n → P .x k ≤ℤ x
+  pub after : (k : ℕ) → n ≤ k → k < P .m → x <ℤ P .x k
+
+-- ---- pairs
+-- the pair i, j, where the values rise by a and b at the distances s and t
+abbrev pub written : (i j : ℕ) (a b s t : ℤ) → Pair
+written i j a b s t = record { i = i; j = j; num = a *ℤ t -ℤ b *ℤ s; den = s +ℤ t }
+
+-- the pair i, j or j, i: the one whose fraction is not negative
+abbrev pub ordered : (i j : ℕ) (a b s t : ℤ) → Pair
+ordered i j a b s t = cond (ltZ (a *ℤ t) (b *ℤ s)) (written j i b a t s) (written i j a b s t)
+
+-- t is a pair with its fraction, which is not negative
+pub record Paired (P : Points) (p : Pin) (t : Pair) : Type 0 where
+  pub fits : Fits P (p .x .count) (t .i) (t .j)
+  pub num-is : t .num ≡ num P (p .x .count) (p .v .count) (t .i) (t .j)
+  pub den-is : t .den ≡ den P (p .x .count) (t .i) (t .j)
+  pub sign : pos 0 ≤ℤ t .num
   pub num-most : natAbs (t .num) ≤ most-num
   pub den-most : natAbs (t .den) ≤ most-den
 
--- t is the best of the first k pairs
-pub record BestOf (P : Points) (p : Pin) (k : ℕ) (t : Pair) : Type 0 where
-  pub paired : Paired P p (t .i) (t .j) t
-  pub fits : Fits P (p .x .count) (t .i) (t .j)
-  pub all : (s : ℕ) → s < k → T (among P (p .x .count) s) → AtMost P (p .x .count) (p .v .count) (t .num) (t .den) (s / 11) (s % 11)
+-- the pair k, l is at most t in both orders
+pub record Covers (P : Points) (p : Pin) (t : Pair) (k l : ℕ) : Type 0 where
+  pub one : AtMost P (p .x .count) (p .v .count) (t .num) (t .den) k l
+  pub other : AtMost P (p .x .count) (p .v .count) (t .num) (t .den) l k
+
+-- t is the pair of i and j
+pub record Told (P : Points) (p : Pin) (i j : ℕ) (t : Pair) : Type 0 where
+  pub paired : Paired P p t
+  pub covers : Covers P p t i j
+
+-- ---- the loops
+-- no pair that is at most o is above t
+abbrev pub Keeps : Points → Pin → (o t : Pair) → Type 0
+Keeps P p o t = (k l : ℕ) → Fits P (p .x .count) k l → AtMost P (p .x .count) (p .v .count) (o .num) (o .den) k l → AtMost P (p .x .count) (p .v .count) (t .num) (t .den) k l
+
+-- after the pairs of i with the later inputs below n, from o on
+pub record Partners (P : Points) (p : Pin) (o : Pair) (i n : ℕ) (t : Pair) : Type 0 where
+  pub paired : Paired P p t
+  pub keeps : Keeps P p o t
+  pub all : (l : ℕ) → l < n → i < l → Covers P p t i l
+
+-- after the pairs of the inputs below n with later ones
+pub record Firsts (P : Points) (p : Pin) (n : ℕ) (t : Pair) : Type 0 where
+  pub paired : Paired P p t
+  pub all : (k : ℕ) → k < n → (l : ℕ) → k < l → Fits P (p .x .count) k l → Covers P p t k l
+
+-- t is the greatest pair, with its fraction
+pub record Found (P : Points) (p : Pin) (t : Pair) : Type 0 where
+  pub paired : Paired P p t
+  pub top : Greatest P (p .x .count) (p .v .count) (t .i) (t .j)
+
+-- ---- what is made of it
+-- f is told with the numbers of the pair's line
+abbrev pub LineParts : Points → Pin → Pair → Fit → Type 0
+LineParts P p t f =
+    let a = rise P (p .v .count) (t .i) +ℤ rise P (p .v .count) (t .j) in
+    FitParts a (p .v .count *ℤ t .den -ℤ a *ℤ p .x .count) (t .den *ℤ pos (P .d)) (t .num) f
 
 -- w is how far the first value lies off, where the first input is x itself; else 0
 pub record OwnDistance (P : Points) (p : Pin) (w : ℤ) : Type 0 where
@@ -57,7 +96,7 @@ pub record OwnDistance (P : Points) (p : Pin) (w : ℤ) : Type 0 where
   pub none : (P .x 0 ≡ p .x .count → ⊥) → w ≡ pos 0
   pub most : natAbs w ≤ 206000000
 
--- the line through the fixed point that is due for a band
+-- the line through the fixed point that is due
 abbrev pub PinDue : Points → Pin → Drawn → Type 0
 PinDue P p (drawn.Line f) = TheLine (Passing P (p .x .count) (p .v .count)) P f
 PinDue P p (drawn.Several h) = OnlyWidth (Passing P (p .x .count) (p .v .count)) P h

@@ -1,32 +1,35 @@
 // Lines through a fixed point: the zero-based and the front terminal-based line.
+ghost use mathlib.Core.Bool.{cond};
 ghost use mathlib.Core.List.{_∷_, []};
 ghost use mathlib.Core.Path.{_≡_};
-ghost use Prim.Native.Nat.{_+_, _<_, _≤_};
-ghost use lib.IntN.{pos, natAbs, _+ℤ_, _-ℤ_, _*ℤ_};
-ghost use lib.Signed.{_≤ℤ_, _<ℤ_, ltZ};
+ghost use Prim.Native.Nat.{_<_, _≤_};
+ghost use lib.IntN.{pos, natAbs, _-ℤ_, _*ℤ_};
+ghost use lib.Signed.{_<ℤ_, ltZ};
 ghost use Rattle.whole.specs.Machine.{Bounds};
-ghost use Rattle.band.specs.Band.{points, most-x, most-v, most-d, Level};
-ghost use Rattle.fit.specs.Parts.{FitParts};
-ghost use Rattle.pin.specs.Answer.{ZeroDue, FrontDue};
-ghost use Rattle.pin.specs.Pair.{ahead, rise, Beyond};
-ghost use Rattle.pin.specs.Search.{most-num, most-den, is-ahead, Ready, Paired, BestOf, OwnDistance, PinDue};
-use band::Band;
-use band::input_at;
+ghost use Rattle.units.specs.Units.{input-in, part-in};
+ghost use Rattle.band.specs.Line.{OneValue};
+ghost use Rattle.band.specs.Band.{lent, most-x, most-v, Admitted};
+ghost use Rattle.pin.specs.Answer.{NoNegative, ZeroDue, FrontDue};
+ghost use Rattle.pin.specs.Pair.{ahead, Fits, Beyond};
+ghost use Rattle.pin.specs.Search.{most-num, most-den, Ready, Start, ordered, Paired, Told, Partners, Found, LineParts, OwnDistance, PinDue};
 use band::is_drawn;
-use band::low_at;
 use fit::Drawn;
 use fit::Fit;
 use fit::only;
 use fit::told;
-use search::gap;
-use search::span;
 use units::Input;
-use units::Sum;
+use units::Part;
+use units::gap;
+use units::input_at;
+use units::is_below;
+use units::part_at;
+use units::rise;
+use units::times;
 
 // The fixed point: the value v at the input x.
 struct Pin {
     x: Input,
-    v: Sum,
+    v: Part,
 }
 
 // Two inputs and their fraction: no line through the fixed point has both values nearer.
@@ -37,64 +40,72 @@ struct Pair {
     den: i64,
 }
 
-// How many pairs are tried, those that do not fit the band among them.
-const ALL: usize = 121;
-
 // How far the input i lies beyond the fixed point.
-fn ahead_of(g: Band, p: Pin, i: usize) -> i64
-    requires { ⌜ Ready g p × (i < g .m) ⌝ }
-    ensures value { λ r. ⌜ r ≡ ahead (points g) (p .x .count) i ⌝ }
+fn ahead_of(x: &[i64; 11], p: Pin, i: usize) -> i64
+    requires { ⌜ i < 11 ⌝ }
+    requires { ⌜ Bounds (p .x .count ∷ input-in (now x) i .count ∷ []) (most-x ∷ most-x ∷ []) ⌝ }
+    ensures value { λ r. ⌜ r ≡ input-in (now (x .entry)) i .count -ℤ p .x .count ⌝ }
     ensures small { λ r. ⌜ natAbs r ≤ 60000 ⌝ }
 {
-    span(p.x, input_at(g, i))
+    gap(p.x, input_at(x, i))
 }
 
 // How far its value lies above the fixed point's.
-fn rise_of(g: Band, p: Pin, i: usize) -> i64
-    requires { ⌜ Ready g p × (i < g .m) ⌝ }
-    ensures value { λ r. ⌜ r ≡ rise (points g) (p .v .count) i ⌝ }
+fn rise_of(low: &[i64; 11], p: Pin, i: usize) -> i64
+    requires { ⌜ i < 11 ⌝ }
+    requires { ⌜ Bounds (p .v .count ∷ part-in (now low) i .count ∷ []) (most-v ∷ most-v ∷ []) ⌝ }
+    ensures value { λ r. ⌜ r ≡ part-in (now (low .entry)) i .count -ℤ p .v .count ⌝ }
     ensures small { λ r. ⌜ natAbs r ≤ 206000000 ⌝ }
 {
-    gap(p.v, low_at(g, i))
+    rise(p.v, part_at(low, i))
 }
 
-// The pair i, j of the values a and b at the distances s and t.
+// The pair i, j of the values a and b at the distances s and t, in the order in which its fraction is not negative: the other order has the opposite one.
 fn paired(i: usize, j: usize, a: i64, b: i64, s: i64, t: i64) -> Pair
     requires { ⌜ Bounds (a ∷ b ∷ s ∷ t ∷ []) (206000000 ∷ 206000000 ∷ 60000 ∷ 60000 ∷ []) ⌝ }
-    ensures i { λ r. ⌜ r .i ≡ i ⌝ }
-    ensures j { λ r. ⌜ r .j ≡ j ⌝ }
-    ensures num { λ r. ⌜ r .num ≡ a *ℤ t -ℤ b *ℤ s ⌝ }
-    ensures den { λ r. ⌜ r .den ≡ s +ℤ t ⌝ }
+    ensures { λ r. ⌜ r ≡ ordered i j a b s t ⌝ }
 {
-    Pair {
-        i,
-        j,
-        num: a * t - b * s,
-        den: s + t,
+    let u = a * t;
+    let v = b * s;
+    if u < v {
+        Pair {
+            i: j,
+            j: i,
+            num: v - u,
+            den: t + s,
+        }
+    } else {
+        Pair {
+            i,
+            j,
+            num: u - v,
+            den: s + t,
+        }
     }
 }
 
-// Two inputs with their fraction.
-fn pair_of(g: Band, p: Pin, i: usize, j: usize) -> Pair
-    requires { ⌜ Ready g p × (i < g .m) × (j < g .m) ⌝ }
-    ensures { λ t. ⌜ Paired (points g) p i j t ⌝ }
+// Two inputs beyond the fixed point, with their fraction.
+fn pair_of(
+    m: usize,
+    d: u64,
+    x: &[i64; 11],
+    low: &[i64; 11],
+    high: &[i64; 11],
+    p: Pin,
+    i: usize,
+    j: usize,
+) -> Pair
+    requires { ⌜ Ready (lent m d (now x) (now low) (now high)) p × Fits (lent m d (now x) (now low) (now high)) (p .x .count) i j ⌝ }
+    ensures { λ t. ⌜ Told (lent m d (now (x .entry)) (now (low .entry)) (now (high .entry))) p i j t ⌝ }
 {
     paired(
         i,
         j,
-        rise_of(g, p, i),
-        rise_of(g, p, j),
-        ahead_of(g, p, i),
-        ahead_of(g, p, j),
+        rise_of(low, p, i),
+        rise_of(low, p, j),
+        ahead_of(x, p, i),
+        ahead_of(x, p, j),
     )
-}
-
-fn is_ahead(g: Band, p: Pin, i: usize) -> bool
-    requires { ⌜ Ready g p ⌝ }
-    ensures { λ r. ⌜ r ≡ is-ahead (points g) (p .x .count) i ⌝ }
-{
-    let m = g.m;
-    if i < m { 0 < ahead_of(g, p, i) } else { false }
 }
 
 // a/b is above c/d, by cross products.
@@ -105,16 +116,11 @@ fn exceeds(a: i64, b: i64, c: i64, d: i64) -> bool
     c * b < a * d
 }
 
-fn consider(g: Band, p: Pin, old: Pair, k: usize) -> Pair
-    requires { ⌜ Ready g p × BestOf (points g) p k old ⌝ }
-    ensures { λ t. ⌜ BestOf (points g) p (k + 1) t ⌝ }
+// The new pair or the old one.
+fn consider(old: Pair, new: Pair) -> Pair
+    requires { ⌜ Bounds (new .num ∷ new .den ∷ old .num ∷ old .den ∷ []) (most-num ∷ most-den ∷ most-num ∷ most-den ∷ []) ⌝ }
+    ensures { λ t. ⌜ t ≡ cond (ltZ (old .num *ℤ new .den) (new .num *ℤ old .den)) new old ⌝ }
 {
-    let i = k / 11;
-    let j = k % 11;
-    if !limits::both(is_ahead(g, p, i), is_ahead(g, p, j)) {
-        return old;
-    }
-    let new = pair_of(g, p, i, j);
     if exceeds(new.num, new.den, old.num, old.den) {
         new
     } else {
@@ -122,99 +128,181 @@ fn consider(g: Band, p: Pin, old: Pair, k: usize) -> Pair
     }
 }
 
-// The pair that keeps the lines furthest off. The last input lies beyond the fixed point, so that the search may start from it.
-fn greatest(g: Band, p: Pin) -> Pair
-    requires { ⌜ Ready g p × Beyond (points g) (p .x .count) ⌝ }
-    ensures { λ t. ⌜ BestOf (points g) p 121 t ⌝ }
+// The pairs of i with later inputs.
+fn over_partners(
+    m: usize,
+    d: u64,
+    x: &[i64; 11],
+    low: &[i64; 11],
+    high: &[i64; 11],
+    p: Pin,
+    i: usize,
+    old: Pair,
+) -> Pair
+    requires { ⌜ Ready (lent m d (now x) (now low) (now high)) p × Paired (lent m d (now x) (now low) (now high)) p old ⌝ }
+    requires { ⌜ (i < m) × (pos 0 <ℤ ahead (lent m d (now x) (now low) (now high)) (p .x .count) i) ⌝ }
+    ensures { λ t. ⌜ Partners (lent m d (now (x .entry)) (now (low .entry)) (now (high .entry))) p old i m t ⌝ }
 {
-    let m = g.m;
-    let mut best = pair_of(g, p, m - 1, m - 1);
-    let mut k = 0;
-    while k < ALL {
-        best = consider(g, p, best, k);
-        k += 1;
+    let mut best = old;
+    let mut j = i + 1;
+    while j < m {
+        best = consider(best, pair_of(m, d, x, low, high, p, i, j));
+        j += 1;
     }
     best
 }
 
-// The line through the value v at x that rises by c/s, with the width w/s, in units of 1/d.
-fn slanted(p: Pin, c: i64, s: i64, w: i64, d: u64) -> Fit
-    requires { ⌜ Bounds (p .x .count ∷ p .v .count ∷ c ∷ s ∷ w ∷ pos d ∷ []) (most-x ∷ most-v ∷ 412000000 ∷ most-den ∷ most-num ∷ most-d ∷ []) ⌝ }
-    requires { ⌜ (pos 0 <ℤ s) × (pos 0 ≤ℤ w) × (0 < d) ⌝ }
-    ensures { λ f. ⌜ FitParts c (p .v .count *ℤ s -ℤ c *ℤ p .x .count) (s *ℤ pos d) w f ⌝ }
+// The first input beyond the fixed point. The inputs rise, so that only the first can be the fixed point's own.
+fn start_of(m: usize, d: u64, x: &[i64; 11], low: &[i64; 11], high: &[i64; 11], p: Pin) -> usize
+    requires { ⌜ Ready (lent m d (now x) (now low) (now high)) p × Beyond (lent m d (now x) (now low) (now high)) (p .x .count) ⌝ }
+    ensures { λ n. ⌜ Start (lent m d (now (x .entry)) (now (low .entry)) (now (high .entry))) (p .x .count) n ⌝ }
 {
-    let x = p.x.count;
-    let v = p.v.count;
-    told(c, v * s - c * x, s * (d as i64), w)
+    if is_below(p.x, input_at(x, 0)) { 0 } else { 1 }
+}
+
+// The pair that keeps the lines furthest off, where n is the first input beyond the fixed point. An input with itself keeps none off, so that the search may start from the last one.
+fn greatest(
+    m: usize,
+    d: u64,
+    x: &[i64; 11],
+    low: &[i64; 11],
+    high: &[i64; 11],
+    p: Pin,
+    n: usize,
+) -> Pair
+    requires { ⌜ Ready (lent m d (now x) (now low) (now high)) p × Start (lent m d (now x) (now low) (now high)) (p .x .count) n ⌝ }
+    ensures { λ t. ⌜ Found (lent m d (now (x .entry)) (now (low .entry)) (now (high .entry))) p t ⌝ }
+{
+    let mut best = pair_of(m, d, x, low, high, p, m - 1, m - 1);
+    let mut i = n;
+    while i < m {
+        best = over_partners(m, d, x, low, high, p, i, best);
+        i += 1;
+    }
+    best
+}
+
+// What the point at i adds to the offset of a pair's line, in input units times parts.
+fn offset_of(x: &[i64; 11], low: &[i64; 11], p: Pin, i: usize) -> i64
+    requires { ⌜ i < 11 ⌝ }
+    requires { ⌜ Bounds (p .x .count ∷ p .v .count ∷ input-in (now x) i .count ∷ part-in (now low) i .count ∷ []) (most-x ∷ most-v ∷ most-x ∷ most-v ∷ []) ⌝ }
+    ensures value { λ r. ⌜ r ≡ input-in (now (x .entry)) i .count *ℤ p .v .count -ℤ p .x .count *ℤ part-in (now (low .entry)) i .count ⌝ }
+    ensures small { λ r. ⌜ natAbs r ≤ 6180000000000 ⌝ }
+{
+    times(input_at(x, i), p.v) - times(p.x, part_at(low, i))
 }
 
 // The line that leaves both values of the pair as far off.
-fn line_of(g: Band, p: Pin, t: Pair) -> Fit
-    requires { ⌜ Ready g p × BestOf (points g) p 121 t ⌝ }
-    ensures { λ f. ⌜ FitParts (rise (points g) (p .v .count) (t .i) +ℤ rise (points g) (p .v .count) (t .j)) (p .v .count *ℤ t .den -ℤ (rise (points g) (p .v .count) (t .i) +ℤ rise (points g) (p .v .count) (t .j)) *ℤ p .x .count) (t .den *ℤ pos (g .d)) (t .num) f ⌝ }
+fn line_of(
+    m: usize,
+    d: u64,
+    x: &[i64; 11],
+    low: &[i64; 11],
+    high: &[i64; 11],
+    p: Pin,
+    t: Pair,
+) -> Fit
+    requires { ⌜ Ready (lent m d (now x) (now low) (now high)) p × Paired (lent m d (now x) (now low) (now high)) p t ⌝ }
+    ensures { λ f. ⌜ LineParts (lent m d (now (x .entry)) (now (low .entry)) (now (high .entry))) p t f ⌝ }
 {
-    let a = rise_of(g, p, t.i);
-    let b = rise_of(g, p, t.j);
-    slanted(p, a + b, t.den, t.num, g.d)
+    let a = rise_of(low, p, t.i);
+    let b = rise_of(low, p, t.j);
+    let u = offset_of(x, low, p, t.i);
+    let v = offset_of(x, low, p, t.j);
+    told(a + b, u + v, t.den * (d as i64), t.num)
 }
 
 // How far the value at the first input lies off every line, where that input is the fixed point's own; else 0.
-fn own_distance(g: Band, p: Pin) -> i64
-    requires { ⌜ Ready g p ⌝ }
-    ensures { λ r. ⌜ OwnDistance (points g) p r ⌝ }
+fn own_distance(
+    m: usize,
+    d: u64,
+    x: &[i64; 11],
+    low: &[i64; 11],
+    high: &[i64; 11],
+    p: Pin,
+    n: usize,
+) -> i64
+    requires { ⌜ Ready (lent m d (now x) (now low) (now high)) p × Start (lent m d (now x) (now low) (now high)) (p .x .count) n ⌝ }
+    requires { ⌜ Beyond (lent m d (now x) (now low) (now high)) (p .x .count) ⌝ }
+    ensures { λ r. ⌜ OwnDistance (lent m d (now (x .entry)) (now (low .entry)) (now (high .entry))) p r ⌝ }
 {
-    if ahead_of(g, p, 0) == 0 {
-        exact::size(rise_of(g, p, 0)) as i64
-    } else {
+    if n == 0 {
         0
+    } else {
+        exact::size(rise_of(low, p, 0)) as i64
     }
 }
 
 // The line through the fixed point whose largest deviation is least.
-fn pinned(g: Band, p: Pin) -> Drawn
-    requires { ⌜ Ready g p × Level g × Beyond (points g) (p .x .count) ⌝ }
-    ensures { λ r. ⌜ PinDue (points g) p r ⌝ }
+fn pinned(m: usize, d: u64, x: &[i64; 11], low: &[i64; 11], high: &[i64; 11], p: Pin) -> Drawn
+    requires { ⌜ Ready (lent m d (now x) (now low) (now high)) p × Beyond (lent m d (now x) (now low) (now high)) (p .x .count) ⌝ }
+    requires { ⌜ OneValue (lent m d (now x) (now low) (now high)) ⌝ }
+    ensures { λ r. ⌜ PinDue (lent m d (now (x .entry)) (now (low .entry)) (now (high .entry))) p r ⌝ }
 {
-    let t = greatest(g, p);
-    let own = own_distance(g, p);
+    let n = start_of(m, d, x, low, high, p);
+    let t = greatest(m, d, x, low, high, p, n);
+    let own = own_distance(m, d, x, low, high, p, n);
     if exceeds(own, 1, t.num, t.den) {
-        return Drawn::Several(only(2 * own, g.d));
+        return Drawn::Several(only(2 * own, d));
     }
-    Drawn::Line(line_of(g, p, t))
+    Drawn::Line(line_of(m, d, x, low, high, p, t))
+}
+
+// The zero-based line of points that it may be drawn past.
+pub fn zero_of(m: usize, d: u64, x: &[i64; 11], low: &[i64; 11], high: &[i64; 11]) -> Drawn
+    requires { ⌜ Admitted (lent m d (now x) (now low) (now high)) × OneValue (lent m d (now x) (now low) (now high)) × NoNegative (lent m d (now x) (now low) (now high)) ⌝ }
+    ensures { λ r. ⌜ ZeroDue (lent m d (now (x .entry)) (now (low .entry)) (now (high .entry))) r ⌝ }
+{
+    pinned(
+        m,
+        d,
+        x,
+        low,
+        high,
+        Pin {
+            x: Input { count: 0 },
+            v: Part { count: 0 },
+        },
+    )
 }
 
 // The zero-based line.
-pub fn zero(g: Band) -> Drawn
-    ensures { λ r. ⌜ ZeroDue g r ⌝ }
+pub fn zero(m: usize, d: u64, x: &[i64; 11], low: &[i64; 11], high: &[i64; 11]) -> Drawn
+    ensures { λ r. ⌜ ZeroDue (lent m d (now (x .entry)) (now (low .entry)) (now (high .entry))) r ⌝ }
 {
-    if !is_drawn(g) {
+    if !is_drawn(m, d, x, low, high) {
         return Drawn::Improper;
     }
-    let first = input_at(g, 0);
-    if first.count < 0 {
+    if is_below(input_at(x, 0), Input { count: 0 }) {
         return Drawn::Improper;
     }
+    zero_of(m, d, x, low, high)
+}
+
+// The front terminal-based line of points that it may be drawn past.
+pub fn front_of(m: usize, d: u64, x: &[i64; 11], low: &[i64; 11], high: &[i64; 11]) -> Drawn
+    requires { ⌜ Admitted (lent m d (now x) (now low) (now high)) × OneValue (lent m d (now x) (now low) (now high)) ⌝ }
+    ensures { λ r. ⌜ FrontDue (lent m d (now (x .entry)) (now (low .entry)) (now (high .entry))) r ⌝ }
+{
     pinned(
-        g,
+        m,
+        d,
+        x,
+        low,
+        high,
         Pin {
-            x: Input { count: 0 },
-            v: Sum { count: 0 },
+            x: input_at(x, 0),
+            v: part_at(low, 0),
         },
     )
 }
 
 // The front terminal-based line.
-pub fn front(g: Band) -> Drawn
-    ensures { λ r. ⌜ FrontDue g r ⌝ }
+pub fn front(m: usize, d: u64, x: &[i64; 11], low: &[i64; 11], high: &[i64; 11]) -> Drawn
+    ensures { λ r. ⌜ FrontDue (lent m d (now (x .entry)) (now (low .entry)) (now (high .entry))) r ⌝ }
 {
-    if !is_drawn(g) {
+    if !is_drawn(m, d, x, low, high) {
         return Drawn::Improper;
     }
-    pinned(
-        g,
-        Pin {
-            x: input_at(g, 0),
-            v: low_at(g, 0),
-        },
-    )
+    front_of(m, d, x, low, high)
 }

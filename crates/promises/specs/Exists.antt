@@ -81,18 +81,16 @@ module _ {r : Run} (c : Checked r) where
       let l = some-largest (r .m) (omega (arith, c .m-least)) g in
       with-line which (record { line = b .line; w = l .0; z = r .n; some = c .n-least; fits = fits (b .line) (l .0) (record { w = b .w; z = b .z; best = b .best }) (l .1) })
 
-  some-given : (which : Index) → (BelowZero which r → ⊥) → (OneCycle which r → ⊥) → Some which r
-  some-given index.Terminal none more = with-line index.Terminal (terminal-fit c)
-  some-given index.Shifted none more = with-line index.Shifted (shifted-fit c)
-  some-given index.Independent none more = with-best index.Independent (λ L w z b. b) (independent c)
-  some-given index.Zero none more = with-fitted index.Zero (λ L w z b. b) (λ w z m. m) (through-origin c (not-negative none))
-  some-given index.Front none more = with-best index.Front (λ L w z b. b) (through-first c)
-  some-given index.Hysteresis none more = with-other index.Hysteresis (swing r) (λ L w i l. (i, l, refl))
-  some-given index.Repeatability none more = with-other index.Repeatability (scatter (limit r)) (λ L w i l. (i, l, refl))
-  some-given index.Lh none more = with-fitted index.Lh (λ L w z b. b) (λ w z m. m) (some-fit c lines.Strokes tt)
-  some-given index.Lhr none more =
-      let not-one : r .n ≡ 1 → ⊥ = λ e. more (tt, e) in
-      with-fitted index.Lhr (λ L w z b. b) (λ w z m. m) (some-fit c lines.Limits (omega (arith, not-one, c .n-least)))
+  some-given : (which : Index) → (BelowZero which r → ⊥) → Some which r
+  some-given index.Terminal none = with-line index.Terminal (terminal-fit c)
+  some-given index.Shifted none = with-line index.Shifted (shifted-fit c)
+  some-given index.Independent none = with-best index.Independent (λ L w z b. b) (independent c)
+  some-given index.Zero none = with-fitted index.Zero (λ L w z b. b) (λ w z m. m) (through-origin c (not-negative none))
+  some-given index.Front none = with-best index.Front (λ L w z b. b) (through-first c)
+  some-given index.Hysteresis none = with-other index.Hysteresis (swing r) (λ L w i l. (i, l, refl))
+  some-given index.Repeatability none = with-other index.Repeatability (scatter (limit r)) (λ L w i l. (i, l, refl))
+  some-given index.Lh none = with-fitted index.Lh (λ L w z b. b) (λ w z m. m) (some-fit c lines.Strokes)
+  some-given index.Lhr none = with-fitted index.Lhr (λ L w z b. b) (λ w z m. m) (some-fit c lines.Limits)
 
 -- ---- an answer
 asked : (b : Bool) → Dec (T b)
@@ -118,7 +116,7 @@ some-answer which r = go (ℕ-discrete (verdict r .number) 0)
     accepted : verdict r .number ≡ 0 → Dec (BelowZero which r) → Dec (OneCycle which r) → (a : Answer) × Due which r a
     accepted e (yes b) _ = (refused 15 0, below-zero e b refl)
     accepted e (no n) (yes o) = (refused 13 0, one-cycle e n o refl)
-    accepted e (no n) (no more) = let g = some-given (checked r e) which n more in (g .0, given e n more (g .1))
+    accepted e (no n) (no more) = let g = some-given (checked r e) which n in (g .0, given e n more (g .1))
 
     go : Dec (verdict r .number ≡ 0) → (a : Answer) × Due which r a
     go (yes e) = accepted e (below which (checked r e) (asked (from-zero which))) (once which r (asked (scatters which)) (ℕ-discrete (r .n) 1))

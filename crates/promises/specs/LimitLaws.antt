@@ -16,7 +16,7 @@ use Rattle.run.specs.Checked.{Checked}
 use Rattle.run.specs.declared.Run.{Run}
 use Rattle.groups.specs.Sums.{up-sum, down-sum, bessel, factor, too-small, limit}
 use Rattle.groups.specs.Limit.{Smallest, only-smallest, limit-is}
-use Rattle.fit.specs.Greater.{smaller, greater}
+use Rattle.whole.specs.Greater.{smaller, greater}
 use Rattle.bands.specs.Through.{limit-points, LargestOf, scatter}
 use Rattle.bands.specs.Parts.{SamePoints}
 use Rattle.promises.specs.Tests.{smallest, smallests}

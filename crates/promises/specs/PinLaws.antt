@@ -1,17 +1,23 @@
 -- What the tests of lines through a fixed point show: that a line is the best of them and the only one, or that several are.
-use Prim.Native.Nat.{ℕ}
+use Prim.Native.Nat.{ℕ, _<_}
 use native.Mathlib.Omega.{arith}
-use lib.Dec.{T}
-use lib.IntN.{ℤ, natAbs}
+use lib.Dec.{T, ltb, ltb→lt}
+use lib.IntN.{ℤ, pos, natAbs}
+use lib.Signed.{_<ℤ_, ltZ, ltZ-yes}
+use mir.Facts.{and-yes}
 use Rattle.band.specs.Line.{Line, Points, Proper, Passing}
-use Rattle.pin.specs.Pair.{rise, wide, part, Fits}
+use Rattle.pin.specs.Pair.{ahead, rise, wide, part, Fits}
 use Rattle.pin.specs.PairLaws.{part-some, no-less, pair-single}
 use Rattle.pin.specs.OwnLaws.{own-no-less}
-use Rattle.pin.specs.SearchLaws.{ahead-fits}
 use Rattle.indices.specs.Due.{Best, Many}
-use Rattle.promises.specs.Tests.{all, pinned, pinned-many}
+use Rattle.promises.specs.Tests.{all, is-ahead, pinned, pinned-many}
 use Rattle.promises.specs.TestLaws.{all-hold, same-is}
 use Rattle.promises.specs.LineLaws.{within-by, differ}
+
+ahead-fits : (P : Points) (x : ℤ) (i : ℕ) → T (is-ahead P x i) → (i < P .m) × (pos 0 <ℤ ahead P x i)
+ahead-fits P x i t =
+    let h = and-yes (ltb i (P .m)) (ltZ (pos 0) (ahead P x i)) t in
+    (ltb→lt i (P .m) (h .0), ltZ-yes (h .1))
 
 pub pinned-by : {P : Points} → Proper P → (x v : ℤ) (i j : ℕ) (L : Line) → T (all (pinned P x v i j L)) → Best (Passing P x v) P L (wide P x v i j) (part P x i j)
 pinned-by {P} proper x v i j L t =

@@ -5,7 +5,7 @@ use Prim.Native.Nat.{ℕ, zero, suc, _*_, _-_, _%_}
 use native.Mathlib.Omega.{arith}
 use lib.Dec.{leb, ltb, eqb}
 use lib.IntN.{ℤ, pos, natAbs, _-ℤ_, _*ℤ_}
-use lib.Signed.{leZ}
+use lib.Signed.{leZ, ltZ}
 use Rattle.whole.specs.Every.{every}
 use Rattle.exact.specs.RoundingLaws.{some-nearest}
 use Rattle.exact.specs.declared.Fraction.{Fraction}
@@ -15,7 +15,6 @@ use Rattle.band.specs.Line.{Line, Points, off}
 use Rattle.band.specs.Candidate.{Candidate, one, up, down, num, wide, part}
 use Rattle.band.specs.Terminal.{terminal-part}
 use Rattle.pin.specs.Pair as pair
-use Rattle.pin.specs.Search.{is-ahead}
 use Rattle.indices.specs.Due.{span}
 use Rattle.indices.specs.declared.Answer.{Answer}
 
@@ -115,6 +114,10 @@ shifted P L w z i j =
     ∷ every (P .m) (between P L i j)
     ∷ all (alike (natAbs (top P L j -ℤ height P L i)) (2 * L .q * P .d) w z)
     ∷ []
+
+-- an input beyond x
+abbrev pub is-ahead : Points → (x : ℤ) → ℕ → Bool
+is-ahead P x i = ltb i (P .m) && ltZ (pos 0) (pair.ahead P x i)
 
 -- the line passes through the value v/d at the input x, and keeps every value within what the pair i, j keeps such lines off by
 abbrev pub pinned : Points → (x v : ℤ) → (i j : ℕ) → Line → List Bool

@@ -16,3 +16,4 @@ pub mod Trimmed
 pub mod VerdictLaws
 pub mod Witness
 pub mod WordLaws
+pub mod ReadFine

@@ -1,6 +1,7 @@
 pub mod Search
-pub mod SearchSize
 pub mod SearchStep
+pub mod SearchSize
+pub mod Over
 pub mod SearchLaws
 pub mod Twin
 pub mod TwinLaws

@@ -1,27 +1,21 @@
--- Steps of the search: from the best of the first k candidates to the best of the first k + 1. Method.
+-- A step of the search: what is below the old candidate is below the one that takes its place. Method.
 use mathlib.Core.Path.{_≡_, refl, sym, _∙_, subst}
 use mathlib.Core.Bool.{Bool, true, false}
 use mathlib.Core.Logic.{⊎-elim}
 use mathlib.Core.List.{_∷_, []}
-use Prim.Native.Nat.{ℕ, _+_}
-use borrow.Author.Count.{below-none, below-more}
 use lib.Dec.{T}
 use lib.IntN.{ℤ, _*ℤ_}
 use lib.Signed.{_≤ℤ_, _<ℤ_, leZ, leZ-yes, ltZ-yes, ltZ-no, ≤ℤ-refl}
 use Rattle.whole.specs.Flags.{yes-T, no-T, T-yes, apart}
 use Rattle.whole.specs.Poly.{var, _⊕_, _⊖_, _⊗_}
 use Rattle.whole.specs.Ring.{ring}
-use Rattle.whole.specs.Sign.{Positive, le-sign, lt-sign, sign-lt, weaken, le-or-gt, nonneg-mul, positive-mul, positive-add, cancel-lt}
+use Rattle.whole.specs.Sign.{NonNeg, Positive, le-sign, sign-le, lt-sign, sign-lt, weaken, le-or-gt, nonneg-mul, positive-mul, positive-add, cancel-lt}
 use Rattle.whole.specs.Uses.{across}
 use Rattle.band.specs.Line.{Points}
-use Rattle.band.specs.Candidate.{num, den, Fits, AtMost, Rising, den-positive, proper-rising}
-use Rattle.band.specs.Band.{points, Admitted}
-use Rattle.search.specs.Search.{shown, nth, among, chord, taken-over, Levelled, Below, BestOf}
-use Rattle.search.specs.SearchSize.{among-fits}
-use Rattle.band.specs.declared.Band.{Band}
+use Rattle.band.specs.Candidate.{num, den, Fits, AtMost, Rising, den-positive}
+use Rattle.search.specs.Search.{shown, chord, taken-over, Below}
 use Rattle.search.specs.declared.Candidate.{Candidate}
 use Rattle.search.specs.declared.Candidate.the-variants.{One, Up, Down}
-use Rattle.search.specs.declared.Top.{Top}
 
 -- ---- what is below
 -- a/b is at most c/d, and c/d less than e/f, so a/b is less than e/f
@@ -53,43 +47,34 @@ module _ {P : Points} (rising : Rising P) {s o : Candidate} (below : Below P s o
     less = λ _ e. absurd (apart (sym q ∙ e));
   }
 
+  -- what is below a chord is below what the chord is below
+  pub through : (n : Candidate) → Fits P (shown n) → chord o ≡ true → Below P o n → Below P s n
+  through n hn q b =
+      let ds = den-positive rising (shown s) hs in
+      let dd = den-positive rising (shown o) ho in
+      let dn = den-positive rising (shown n) hn in
+      record {
+        at-most = across (num P (shown s)) (den P (shown s)) (num P (shown o)) (den P (shown o)) (num P (shown n)) (den P (shown n)) ds dd dn (below .at-most) (b .at-most);
+        less = λ _ e. across-lt (num P (shown s)) (den P (shown s)) (num P (shown o)) (den P (shown o)) (num P (shown n)) (den P (shown n)) ds dd dn (below .at-most) (b .less (yes-T q) e);
+      }
+
   -- what is below the old one is below the new one that takes its place
-  carried : (n : Candidate) → Fits P (shown n) → over P o n ≡ true → Below P s n
+  pub carried : (n : Candidate) → Fits P (shown n) → over P o n ≡ true → Below P s n
   carried (One i) hn e = carried-lt (One i) hn (ltZ-yes (yes-T e))
   carried (Up i j k) hn e = carried-le (Up i j k) hn refl (leZ-yes (yes-T e))
   carried (Down i j k) hn e = carried-le (Down i j k) hn refl (leZ-yes (yes-T e))
 
 -- a new one that does not take the old one's place is below it
-kept : (P : Points) (o n : Candidate) → over P o n ≡ false → Below P n o
+pub kept : (P : Points) (o n : Candidate) → over P o n ≡ false → Below P n o
 kept P o (One i) e = record { at-most = ltZ-no (no-T e); less = λ t. absurd t }
 kept P o (Up i j k) e = let l = not-le e in record { at-most = weaken l; less = λ _ _. l }
 kept P o (Down i j k) e = let l = not-le e in record { at-most = weaken l; less = λ _ _. l }
 
--- ---- the steps
-abbrev Covers : Band → Top → ℕ → Type 0
-Covers g t s = T (among (g .m) (nth s)) → Below (points g) (nth s) (t .which)
-
-pub best-start : {g : Band} {t : Top} → Levelled g t → BestOf g 0 t
-best-start {g} {t} l = record { levelled = l; all = below-none (Covers g t) }
-
-best-more : {g : Band} {k : ℕ} {t : Top} → BestOf g k t → Covers g t k → BestOf g (k + 1) t
-best-more {g} {k} {t} b h = record { levelled = b .levelled; all = below-more (Covers g t) k (b .all) h }
-
--- no candidate of the band
-pub best-none : {g : Band} {k : ℕ} {t : Top} → BestOf g k t → among (g .m) (nth k) ≡ false → BestOf g (k + 1) t
-best-none b e = best-more b (λ t. absurd (apart (sym (T-yes t) ∙ e)))
-
-module _ {g : Band} {k : ℕ} {o n : Top} (a : Admitted g) (b : BestOf g k o) (l : Levelled g n) (w : n .which ≡ nth k) where
-  told : taken-over (o .num) (o .den) (n .num) (n .den) (n .which) ≡ over (points g) (o .which) (n .which)
-  told = let p = b .levelled .num in let q = b .levelled .den in let r = l .num in let s = l .den in simp (p, q, r, s)
-
-  pub best-kept : taken-over (o .num) (o .den) (n .num) (n .den) (n .which) ≡ false → BestOf g (k + 1) o
-  best-kept e = best-more b (λ _. subst (λ (c : Candidate). Below (points g) c (o .which)) w (kept (points g) (o .which) (n .which) (sym told ∙ e)))
-
-  pub best-taken : taken-over (o .num) (o .den) (n .num) (n .den) (n .which) ≡ true → BestOf g (k + 1) n
-  best-taken e =
-      best-more (record {
-        levelled = l;
-        all = λ s h t. carried (proper-rising (a .proper)) (b .all s h t) (among-fits (g .m) (nth s) t) (b .levelled .fits) (n .which) (l .fits) (sym told ∙ e);
-      })
-      (λ _. subst (λ (c : Candidate). Below (points g) c (n .which)) w (below-itself (points g) (n .which)))
+-- of two chords with the same denominator the one with the smaller numerator is below the other
+pub beside : (P : Points) (c t : Candidate) → Positive (den P (shown c)) → den P (shown c) ≡ den P (shown t) → chord t ≡ true → num P (shown c) ≤ℤ num P (shown t) → Below P c t
+beside P c t p e q h = record {
+  at-most = subst (λ (z : ℤ). (num P (shown c) *ℤ z) ≤ℤ (num P (shown t) *ℤ den P (shown c))) e (sign-le (subst NonNeg
+      (ring (num P (shown c) ∷ num P (shown t) ∷ den P (shown c) ∷ []) (var 2 ⊗ (var 1 ⊖ var 0)) (var 1 ⊗ var 2 ⊖ var 0 ⊗ var 2) tt)
+      (nonneg-mul (weaken p) (le-sign h))));
+  less = λ _ f. absurd (apart (sym q ∙ f));
+}

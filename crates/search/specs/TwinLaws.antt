@@ -18,11 +18,10 @@ use Rattle.whole.specs.Sign.{le-or-gt, le-antisym}
 use Rattle.band.specs.Line.{Points}
 use Rattle.band.specs.Candidate.{one, up, down, num, den, Fits}
 use Rattle.band.specs.Candidate as C
-use Rattle.band.specs.Band.{points, Admitted}
-use Rattle.search.specs.Search.{shown, chord, BestOf}
+use Rattle.search.specs.Search.{shown, chord}
+use Rattle.search.specs.Over.{Greatest}
 use Rattle.search.specs.SearchLaws.{Chord, found, found-alone}
 use Rattle.search.specs.Twin.{same-number, apart}
-use Rattle.band.specs.declared.Band.{Band}
 use Rattle.search.specs.declared.Candidate.{Candidate}
 use Rattle.search.specs.declared.Candidate.the-variants.{One}
 use Rattle.search.specs.declared.Top.{Top}
@@ -74,23 +73,23 @@ module _ (P : Points) (i : ℕ) {m j : ℕ} (f : FirstNot m (apart P i) j) where
       (or-yes (eqb i k) (not (same-number (num P (one i)) (num P (one k)))) (f .before k (subst (λ (n : ℕ). k < n) (sym e) h)))
 
 -- a single input that the search found, and that has no twin: every other candidate is less
-module _ {g : Band} {t : Top} (a : Admitted g) (b : BestOf g 2673 t) (i : ℕ) (w : t .which ≡ One i) (f : FirstNot (g .m) (apart (points g) i) (g .m)) where
+module _ {P : Points} {t : Top} (b : Greatest P t) (i : ℕ) (w : t .which ≡ One i) (f : FirstNot (P .m) (apart P i) (P .m)) where
   abbrev Less : C.Candidate → Candidate → Type 0
-  Less e c = (num (points g) e *ℤ den (points g) (shown c)) <ℤ (num (points g) (shown c) *ℤ den (points g) e)
+  Less e c = (num P e *ℤ den P (shown c)) <ℤ (num P (shown c) *ℤ den P e)
 
-  chord-less : (e : C.Candidate) → Fits (points g) e → Chord e → Less e (One i)
-  chord-less e h c = subst (Less e) w (found-alone a b (ap chord w) e h c)
+  chord-less : (e : C.Candidate) → Fits P e → Chord e → Less e (One i)
+  chord-less e h c = subst (Less e) w (found-alone b (ap chord w) e h c)
 
-  pub alone : (e : C.Candidate) → Fits (points g) e → (e ≡ one i → ⊥) → Less e (One i)
+  pub alone : (e : C.Candidate) → Fits P e → (e ≡ one i → ⊥) → Less e (One i)
   alone (up j k l) h n = chord-less (up j k l) h tt
   alone (down j k l) h n = chord-less (down j k l) h tt
-  alone (one j) h n = ⊎-elim (λ l. absurd (twin-none (points g) i f refl j h (λ e. n (ap one (sym e))) (same l))) (λ l. l) (le-or-gt (num (points g) (one i) *ℤ pos 1) (num (points g) (one j) *ℤ pos 1))
+  alone (one j) h n = ⊎-elim (λ l. absurd (twin-none P i f refl j h (λ e. n (ap one (sym e))) (same l))) (λ l. l) (le-or-gt (num P (one i) *ℤ pos 1) (num P (one j) *ℤ pos 1))
     where
-      at-most : C.AtMost (points g) (one j) (one i)
-      at-most = subst (λ (c : Candidate). C.AtMost (points g) (one j) (shown c)) w (found a b .all (one j) h)
+      at-most : C.AtMost P (one j) (one i)
+      at-most = subst (λ (c : Candidate). C.AtMost P (one j) (shown c)) w (found b .all (one j) h)
 
       once : (z : ℤ) → z *ℤ pos 1 ≡ z
       once z = ring (z ∷ []) (var 0 ⊗ lit 1) (var 0) tt
 
-      same : (num (points g) (one i) *ℤ pos 1) ≤ℤ (num (points g) (one j) *ℤ pos 1) → num (points g) (one j) ≡ num (points g) (one i)
-      same l = sym (once (num (points g) (one j))) ∙ le-antisym at-most l ∙ once (num (points g) (one i))
+      same : (num P (one i) *ℤ pos 1) ≤ℤ (num P (one j) *ℤ pos 1) → num P (one j) ≡ num P (one i)
+      same l = sym (once (num P (one j))) ∙ le-antisym at-most l ∙ once (num P (one i))

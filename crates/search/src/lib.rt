@@ -1,22 +1,21 @@
 // The greatest candidate: of all inputs and all triples of inputs the one that keeps the lines furthest off.
 ghost use mathlib.Core.List.{_∷_, []};
+ghost use mathlib.Core.Bool.{cond};
 ghost use mathlib.Core.Path.{_≡_};
-ghost use Prim.Native.Nat.{_+_, _<_, _≤_};
-ghost use lib.Dec.{T};
-ghost use lib.IntN.{pos, natAbs, _+ℤ_, _-ℤ_, _*ℤ_};
+ghost use Prim.Native.Nat.{_<_, _+_};
+ghost use lib.IntN.{_+ℤ_, _*ℤ_};
 ghost use lib.Signed.{ltZ, leZ};
 ghost use Rattle.whole.specs.Every.{FirstNot};
 ghost use Rattle.whole.specs.Machine.{Bounds};
-ghost use Rattle.band.specs.Band.{points, most-x, most-v, Admitted};
-ghost use Rattle.band.specs.Candidate.{up, down, num, Fits};
-ghost use Rattle.search.specs.Search.{nth, among, taken-over, Levelled, BestOf};
+ghost use Rattle.band.specs.Band.{lent, Admitted};
+ghost use Rattle.band.specs.Candidate.{up, down, num};
+ghost use Rattle.search.specs.Search.{which-of};
+ghost use Rattle.search.specs.Over.{Greatest, Holds, Told, Singles, HighestChord, Middles, Ends, Most};
 ghost use Rattle.search.specs.Twin.{apart};
-use band::Band;
-use band::high_at;
-use band::input_at;
-use band::low_at;
-use units::Input;
-use units::Sum;
+use units::gap;
+use units::input_at;
+use units::part_at;
+use units::rise;
 
 // The highest above the lowest value at one input; a chord over the highest values at the outer two of three inputs, above the lowest at the middle one; or the highest value there above a chord over the lowest.
 pub enum Candidate {
@@ -32,146 +31,89 @@ pub struct Top {
     pub den: i64,
 }
 
-// How many candidates are tried, those that do not fit the band among them.
-const ALL: usize = 2673;
+// The same while the loops run, without an enum: kind 0 is One at i, kind 1 Up, kind 2 Down. Six words stay in registers.
+struct Held {
+    kind: usize,
+    i: usize,
+    j: usize,
+    k: usize,
+    num: i64,
+    den: i64,
+}
 
-fn tried(t: usize) -> Candidate
-    ensures { λ c. ⌜ c ≡ nth t ⌝ }
+// The middle of a chord from i to k, and what stands above its fraction's stroke: all that differs between them, and two words stay in registers.
+struct Middle {
+    j: usize,
+    num: i64,
+}
+
+// How far a chord lies off a value at a middle input, times its own gap: at the first input it lies off by the one, and climbs towards the last by the other.
+fn bend(span: i64, left: i64, off: i64, climb: i64) -> i64
+    requires { ⌜ Bounds (span ∷ left ∷ off ∷ climb ∷ []) (60000 ∷ 60000 ∷ 206000000 ∷ 206000000 ∷ []) ⌝ }
+    ensures { λ r. ⌜ r ≡ span *ℤ off +ℤ left *ℤ climb ⌝ }
 {
-    if t < 11 {
-        return Candidate::One(t);
+    span * off + left * climb
+}
+
+// The highest above the lowest value at i.
+fn alone(m: usize, d: u64, x: &[i64; 11], low: &[i64; 11], high: &[i64; 11], i: usize) -> Held
+    requires { ⌜ Admitted (lent m d (now x) (now low) (now high)) × (i < m) ⌝ }
+    ensures { λ t. ⌜ Told (lent m d (now (x .entry)) (now (low .entry)) (now (high .entry))) (Candidate.One i) t ⌝ }
+{
+    Held {
+        kind: 0,
+        i,
+        j: 0,
+        k: 0,
+        num: rise(part_at(low, i), part_at(high, i)),
+        den: 1,
     }
-    if t < 1342 {
-        let s = t - 11;
-        return Candidate::Up(s / 121, s / 11 % 11, s % 11);
-    }
-    let s = t - 1342;
-    Candidate::Down(s / 121, s / 11 % 11, s % 11)
 }
 
-fn in_order(m: usize, i: usize, j: usize, k: usize) -> bool
-    ensures { λ r. ⌜ r ≡ among m (Candidate.Up i j k) ⌝ }
+// A chord over the highest values at i and k, above the lowest at j: what stands above its fraction's stroke.
+fn above(
+    m: usize,
+    d: u64,
+    x: &[i64; 11],
+    low: &[i64; 11],
+    high: &[i64; 11],
+    i: usize,
+    j: usize,
+    k: usize,
+) -> i64
+    requires { ⌜ Admitted (lent m d (now x) (now low) (now high)) × (i < j) × (j < k) × (k < m) ⌝ }
+    ensures { λ r. ⌜ r ≡ num (lent m d (now (x .entry)) (now (low .entry)) (now (high .entry))) (up i j k) ⌝ }
 {
-    if i < j {
-        if j < k { k < m } else { false }
-    } else {
-        false
-    }
+    let a = input_at(x, i);
+    let b = input_at(x, j);
+    let c = input_at(x, k);
+    let u = part_at(high, i);
+    let v = part_at(low, j);
+    let w = part_at(high, k);
+    bend(gap(a, c), gap(a, b), rise(v, u), rise(u, w))
 }
 
-fn is_among(m: usize, c: Candidate) -> bool
-    ensures { λ r. ⌜ r ≡ among m c ⌝ }
+// The same of the highest value at j, above a chord over the lowest at i and k.
+fn beneath(
+    m: usize,
+    d: u64,
+    x: &[i64; 11],
+    low: &[i64; 11],
+    high: &[i64; 11],
+    i: usize,
+    j: usize,
+    k: usize,
+) -> i64
+    requires { ⌜ Admitted (lent m d (now x) (now low) (now high)) × (i < j) × (j < k) × (k < m) ⌝ }
+    ensures { λ r. ⌜ r ≡ num (lent m d (now (x .entry)) (now (low .entry)) (now (high .entry))) (down i j k) ⌝ }
 {
-    match c {
-        Candidate::One(i) => i < m,
-        Candidate::Up(i, j, k) => in_order(m, i, j, k),
-        Candidate::Down(i, j, k) => in_order(m, i, j, k),
-    }
-}
-
-// How far the outer two values, weighed by the other gap each, are above the middle one.
-fn bend(x: Input, y: Input, z: Input, a: Sum, b: Sum, c: Sum) -> i64
-    requires { ⌜ Bounds (x .count ∷ y .count ∷ z .count ∷ a .count ∷ b .count ∷ c .count ∷ []) (most-x ∷ most-x ∷ most-x ∷ most-v ∷ most-v ∷ most-v ∷ []) ⌝ }
-    ensures value { λ r. ⌜ r ≡ (z .count -ℤ y .count) *ℤ a .count +ℤ (y .count -ℤ x .count) *ℤ c .count -ℤ (z .count -ℤ x .count) *ℤ b .count ⌝ }
-    ensures small { λ r. ⌜ natAbs r ≤ 18540000000000 ⌝ }
-{
-    let p = x.count;
-    let q = y.count;
-    let r = z.count;
-    let u = a.count;
-    let v = b.count;
-    let w = c.count;
-    (r - q) * u + (q - p) * w - (r - p) * v
-}
-
-pub fn span(x: Input, z: Input) -> i64
-    requires { ⌜ Bounds (x .count ∷ z .count ∷ []) (most-x ∷ most-x ∷ []) ⌝ }
-    ensures value { λ r. ⌜ r ≡ z .count -ℤ x .count ⌝ }
-    ensures small { λ r. ⌜ natAbs r ≤ 60000 ⌝ }
-{
-    let p = x.count;
-    let q = z.count;
-    q - p
-}
-
-pub fn gap(low: Sum, high: Sum) -> i64
-    requires { ⌜ Bounds (low .count ∷ high .count ∷ []) (most-v ∷ most-v ∷ []) ⌝ }
-    ensures value { λ r. ⌜ r ≡ high .count -ℤ low .count ⌝ }
-    ensures small { λ r. ⌜ natAbs r ≤ 206000000 ⌝ }
-{
-    let p = low.count;
-    let q = high.count;
-    q - p
-}
-
-fn opposite(z: i64) -> i64
-    requires { ⌜ natAbs z ≤ 18540000000000 ⌝ }
-    ensures { λ r. ⌜ r ≡ pos 0 -ℤ z ⌝ }
-{
-    0 - z
-}
-
-// The numerator of a chord over the highest values at i and k, above the lowest at j.
-fn above(g: Band, i: usize, j: usize, k: usize) -> i64
-    requires { ⌜ Admitted g × Fits (points g) (up i j k) ⌝ }
-    ensures { λ r. ⌜ r ≡ num (points g) (up i j k) ⌝ }
-{
-    bend(
-        input_at(g, i),
-        input_at(g, j),
-        input_at(g, k),
-        high_at(g, i),
-        low_at(g, j),
-        high_at(g, k),
-    )
-}
-
-// The numerator of the highest value at j, above a chord over the lowest at i and k.
-fn beneath(g: Band, i: usize, j: usize, k: usize) -> i64
-    requires { ⌜ Admitted g × Fits (points g) (down i j k) ⌝ }
-    ensures { λ r. ⌜ r ≡ num (points g) (down i j k) ⌝ }
-{
-    opposite(bend(
-        input_at(g, i),
-        input_at(g, j),
-        input_at(g, k),
-        low_at(g, i),
-        high_at(g, j),
-        low_at(g, k),
-    ))
-}
-
-// The denominator of both.
-fn span_of(g: Band, i: usize, k: usize) -> i64
-    requires { ⌜ Admitted g × (i < k) × (k < g .m) ⌝ }
-    ensures { λ r. ⌜ r ≡ points g .x k -ℤ points g .x i ⌝ }
-{
-    span(input_at(g, i), input_at(g, k))
-}
-
-// A candidate with its fraction.
-fn levelled(g: Band, c: Candidate) -> Top
-    requires { ⌜ Admitted g × T (among (g .m) c) ⌝ }
-    ensures which { λ t. ⌜ t .which ≡ c ⌝ }
-    ensures value { λ t. ⌜ Levelled g t ⌝ }
-{
-    match c {
-        Candidate::One(i) => Top {
-            which: c,
-            num: gap(low_at(g, i), high_at(g, i)),
-            den: 1,
-        },
-        Candidate::Up(i, j, k) => Top {
-            which: c,
-            num: above(g, i, j, k),
-            den: span_of(g, i, k),
-        },
-        Candidate::Down(i, j, k) => Top {
-            which: c,
-            num: beneath(g, i, j, k),
-            den: span_of(g, i, k),
-        },
-    }
+    let a = input_at(x, i);
+    let b = input_at(x, j);
+    let c = input_at(x, k);
+    let u = part_at(low, i);
+    let v = part_at(high, j);
+    let w = part_at(low, k);
+    bend(gap(a, c), gap(a, b), rise(u, v), rise(w, u))
 }
 
 // One fraction below another, and not above it, by cross products.
@@ -189,67 +131,245 @@ fn not_more(a: i64, b: i64, c: i64, d: i64) -> bool
     a * d <= c * b
 }
 
-// The new one takes the old one's place: a chord also where it is no more, so that a single input stays only where no chord reaches it.
-fn takes_over(old: Top, new: Top) -> bool
+// A single input takes the old one's place where it is more. The fields are handed on one by one: of two whole structs the back end would choose by address, and keep both in memory.
+fn with_input(old: Held, new: Held) -> Held
     requires { ⌜ Bounds (old .num ∷ old .den ∷ new .num ∷ new .den ∷ []) (18540000000000 ∷ 60000 ∷ 18540000000000 ∷ 60000 ∷ []) ⌝ }
-    ensures { λ r. ⌜ r ≡ taken-over (old .num) (old .den) (new .num) (new .den) (new .which) ⌝ }
+    ensures { λ t. ⌜ t ≡ cond (ltZ (old .num *ℤ new .den) (new .num *ℤ old .den)) new old ⌝ }
 {
-    let which = new.which;
-    match which {
-        Candidate::One(_) => less(old.num, old.den, new.num, new.den),
-        Candidate::Up(_, _, _) => not_more(old.num, old.den, new.num, new.den),
-        Candidate::Down(_, _, _) => not_more(old.num, old.den, new.num, new.den),
+    if less(old.num, old.den, new.num, new.den) {
+        Held {
+            kind: new.kind,
+            i: new.i,
+            j: new.j,
+            k: new.k,
+            num: new.num,
+            den: new.den,
+        }
+    } else {
+        old
     }
 }
 
-fn consider(g: Band, old: Top, k: usize) -> Top
-    requires { ⌜ Admitted g × BestOf g k old ⌝ }
-    ensures { λ t. ⌜ BestOf g (k + 1) t ⌝ }
+// A chord takes it also where it is no more, so that a single input stays only where no chord reaches it.
+fn with_chord(old: Held, new: Held) -> Held
+    requires { ⌜ Bounds (old .num ∷ old .den ∷ new .num ∷ new .den ∷ []) (18540000000000 ∷ 60000 ∷ 18540000000000 ∷ 60000 ∷ []) ⌝ }
+    ensures { λ t. ⌜ t ≡ cond (leZ (old .num *ℤ new .den) (new .num *ℤ old .den)) new old ⌝ }
 {
-    let c = tried(k);
-    let m = g.m;
-    if !is_among(m, c) {
+    if not_more(old.num, old.den, new.num, new.den) {
+        Held {
+            kind: new.kind,
+            i: new.i,
+            j: new.j,
+            k: new.k,
+            num: new.num,
+            den: new.den,
+        }
+    } else {
+        old
+    }
+}
+
+// The middle with the larger numerator.
+fn with_middle(old: Middle, j: usize, num: i64) -> Middle
+    requires { ⌜ Bounds (old .num ∷ num ∷ []) (18540000000000 ∷ 18540000000000 ∷ []) ⌝ }
+    ensures { λ t. ⌜ t ≡ cond (ltZ (old .num) num) (record { j = j; num = num }) old ⌝ }
+{
+    if old.num < num {
+        Middle { j, num }
+    } else {
+        old
+    }
+}
+
+// The single inputs.
+fn over_inputs(m: usize, d: u64, x: &[i64; 11], low: &[i64; 11], high: &[i64; 11]) -> Held
+    requires { ⌜ Admitted (lent m d (now x) (now low) (now high)) ⌝ }
+    ensures { λ t. ⌜ Singles (lent m d (now (x .entry)) (now (low .entry)) (now (high .entry))) m t ⌝ }
+{
+    let mut t = alone(m, d, x, low, high, 0);
+    let mut i = 0;
+    while i < m {
+        t = with_input(t, alone(m, d, x, low, high, i));
+        i += 1;
+    }
+    t
+}
+
+// The highest chord from i to k above a lowest value between them: the gap is the same for all, so the numerators alone decide.
+fn highest_above(
+    m: usize,
+    d: u64,
+    x: &[i64; 11],
+    low: &[i64; 11],
+    high: &[i64; 11],
+    i: usize,
+    k: usize,
+) -> Held
+    requires { ⌜ Admitted (lent m d (now x) (now low) (now high)) × (i + 1 < k) × (k < m) ⌝ }
+    ensures { λ t. ⌜ HighestChord (lent m d (now (x .entry)) (now (low .entry)) (now (high .entry))) (λ j. Candidate.Up i j k) i k t ⌝ }
+{
+    let mut t = Middle {
+        j: i + 1,
+        num: above(m, d, x, low, high, i, i + 1, k),
+    };
+    let mut j = i + 2;
+    while j < k {
+        t = with_middle(t, j, above(m, d, x, low, high, i, j, k));
+        j += 1;
+    }
+    Held {
+        kind: 1,
+        i,
+        j: t.j,
+        k,
+        num: t.num,
+        den: gap(input_at(x, i), input_at(x, k)),
+    }
+}
+
+// The same of the highest values between them, above a chord.
+fn highest_beneath(
+    m: usize,
+    d: u64,
+    x: &[i64; 11],
+    low: &[i64; 11],
+    high: &[i64; 11],
+    i: usize,
+    k: usize,
+) -> Held
+    requires { ⌜ Admitted (lent m d (now x) (now low) (now high)) × (i + 1 < k) × (k < m) ⌝ }
+    ensures { λ t. ⌜ HighestChord (lent m d (now (x .entry)) (now (low .entry)) (now (high .entry))) (λ j. Candidate.Down i j k) i k t ⌝ }
+{
+    let mut t = Middle {
+        j: i + 1,
+        num: beneath(m, d, x, low, high, i, i + 1, k),
+    };
+    let mut j = i + 2;
+    while j < k {
+        t = with_middle(t, j, beneath(m, d, x, low, high, i, j, k));
+        j += 1;
+    }
+    Held {
+        kind: 2,
+        i,
+        j: t.j,
+        k,
+        num: t.num,
+        den: gap(input_at(x, i), input_at(x, k)),
+    }
+}
+
+// The chords from i to k.
+fn over_middles(
+    m: usize,
+    d: u64,
+    x: &[i64; 11],
+    low: &[i64; 11],
+    high: &[i64; 11],
+    i: usize,
+    k: usize,
+    old: Held,
+) -> Held
+    requires { ⌜ Admitted (lent m d (now x) (now low) (now high)) × Holds (lent m d (now x) (now low) (now high)) old × (i < k) × (k < m) ⌝ }
+    ensures { λ t. ⌜ Middles (lent m d (now (x .entry)) (now (low .entry)) (now (high .entry))) old i k k t ⌝ }
+{
+    if k == i + 1 {
         return old;
     }
-    let new = levelled(g, c);
-    if takes_over(old, new) { new } else { old }
+    let t = with_chord(old, highest_above(m, d, x, low, high, i, k));
+    with_chord(t, highest_beneath(m, d, x, low, high, i, k))
+}
+
+// The chords from i.
+fn over_ends(
+    m: usize,
+    d: u64,
+    x: &[i64; 11],
+    low: &[i64; 11],
+    high: &[i64; 11],
+    i: usize,
+    old: Held,
+) -> Held
+    requires { ⌜ Admitted (lent m d (now x) (now low) (now high)) × Holds (lent m d (now x) (now low) (now high)) old × (i < m) ⌝ }
+    ensures { λ t. ⌜ Ends (lent m d (now (x .entry)) (now (low .entry)) (now (high .entry))) old i m t ⌝ }
+{
+    let mut t = old;
+    let mut k = i + 1;
+    while k < m {
+        t = over_middles(m, d, x, low, high, i, k, t);
+        k += 1;
+    }
+    t
+}
+
+// All chords, after the single inputs.
+fn over_all(m: usize, d: u64, x: &[i64; 11], low: &[i64; 11], high: &[i64; 11]) -> Held
+    requires { ⌜ Admitted (lent m d (now x) (now low) (now high)) ⌝ }
+    ensures { λ t. ⌜ Most (lent m d (now (x .entry)) (now (low .entry)) (now (high .entry))) t ⌝ }
+{
+    let old = over_inputs(m, d, x, low, high);
+    let mut t = old;
+    let mut i = 0;
+    while i < m {
+        t = over_ends(m, d, x, low, high, i, t);
+        i += 1;
+    }
+    t
+}
+
+fn candidate_of(kind: usize, i: usize, j: usize, k: usize) -> Candidate
+    ensures { λ c. ⌜ c ≡ which-of kind i j k ⌝ }
+{
+    if kind == 0 {
+        return Candidate::One(i);
+    }
+    if kind == 1 {
+        return Candidate::Up(i, j, k);
+    }
+    Candidate::Down(i, j, k)
 }
 
 // The greatest candidate.
-pub fn greatest(g: Band) -> Top
-    requires { ⌜ Admitted g ⌝ }
-    ensures { λ t. ⌜ BestOf g 2673 t ⌝ }
+pub fn greatest(m: usize, d: u64, x: &[i64; 11], low: &[i64; 11], high: &[i64; 11]) -> Top
+    requires { ⌜ Admitted (lent m d (now x) (now low) (now high)) ⌝ }
+    ensures { λ t. ⌜ Greatest (lent m d (now (x .entry)) (now (low .entry)) (now (high .entry))) t ⌝ }
 {
-    let mut top = levelled(g, Candidate::One(0));
-    let mut k = 0;
-    while k < ALL {
-        top = consider(g, top, k);
-        k += 1;
+    let t = over_all(m, d, x, low, high);
+    Top {
+        which: candidate_of(t.kind, t.i, t.j, t.k),
+        num: t.num,
+        den: t.den,
     }
-    top
 }
 
-fn differs(g: Band, i: usize, j: usize) -> bool
-    requires { ⌜ Admitted g × (i < g .m) × (j < g .m) ⌝ }
-    ensures { λ r. ⌜ r ≡ apart (points g) i j ⌝ }
+fn differs(
+    m: usize,
+    d: u64,
+    x: &[i64; 11],
+    low: &[i64; 11],
+    high: &[i64; 11],
+    i: usize,
+    j: usize,
+) -> bool
+    requires { ⌜ Admitted (lent m d (now x) (now low) (now high)) × (i < m) × (j < m) ⌝ }
+    ensures { λ r. ⌜ r ≡ apart (lent m d (now (x .entry)) (now (low .entry)) (now (high .entry))) i j ⌝ }
 {
     if i == j {
         return true;
     }
-    let p = gap(low_at(g, i), high_at(g, i));
-    let q = gap(low_at(g, j), high_at(g, j));
+    let p = rise(part_at(low, i), part_at(high, i));
+    let q = rise(part_at(low, j), part_at(high, j));
     p != q
 }
 
 // Another input with the same gap as input i: the first, or m where there is none.
-pub fn twin(g: Band, i: usize) -> usize
-    requires { ⌜ Admitted g × (i < g .m) ⌝ }
-    ensures { λ j. ⌜ FirstNot (g .m) (apart (points g) i) j ⌝ }
+pub fn twin(m: usize, d: u64, x: &[i64; 11], low: &[i64; 11], high: &[i64; 11], i: usize) -> usize
+    requires { ⌜ Admitted (lent m d (now x) (now low) (now high)) × (i < m) ⌝ }
+    ensures { λ j. ⌜ FirstNot m (apart (lent m d (now (x .entry)) (now (low .entry)) (now (high .entry))) i) j ⌝ }
 {
-    let m = g.m;
     let mut j = 0;
     while j < m {
-        if !differs(g, i, j) {
+        if !differs(m, d, x, low, high, i, j) {
             return j;
         }
         j += 1;

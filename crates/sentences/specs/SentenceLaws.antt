@@ -1,20 +1,15 @@
--- Laws of how a refusal is told: which sentence a number has, and that its two lines are shorter than a text may be.
-use mathlib.Core.Path.{_≡_, sym, ap, _∙_}
+-- Laws of how a refusal is told: which numbers have a sentence, and that its two lines have room in an array of 831 bytes.
+use mathlib.Core.Path.{_≡_}
 use mathlib.Core.Bool.{Bool, true, false, cond}
 use mathlib.Core.List.{List, []}
-use Prim.Native.Nat.{ℕ}
+use Prim.Native.Nat.{ℕ, _≤_}
 use native.Mathlib.Omega.{arith}
 use borrow.Author.Tests.{ne-eqb}
 use lib.Dec.{eqb}
-use lib.Seq.{take-all}
+use lib.ListN.{length}
 use Rattle.plain.specs.Plain.{longest, line-feed, refused-word}
-use Rattle.plain.specs.Grown.{grown}
 use Rattle.plain.specs.Most.{Most, word, after, joined, decimal-most}
 use Rattle.sentences.specs.Sentences.{line-word, sentence, refusal}
-
--- a number that an arm is told has the sentence of that number
-pub sentence-told : (number told : ℕ) (t : List ℕ) {r : List ℕ} → number ≡ told → r ≡ grown t (sentence told) → r ≡ grown t (sentence number)
-sentence-told number told t e f = f ∙ ap (λ (n : ℕ). grown t (sentence n)) (sym e)
 
 -- other numbers have none
 pub sentence-none : (number : ℕ) → ((number ≡ 41 → ⊥) × (number ≡ 42 → ⊥) × (number ≡ 43 → ⊥) × (number ≡ 44 → ⊥) × (number ≡ 45 → ⊥))
@@ -55,6 +50,6 @@ sentence-most number =
 refusal-most : (number line : ℕ) → Most (refusal number line) 94
 refusal-most number line = joined (word refused-word) (joined (decimal-most number) (joined (word line-word) (joined (decimal-most line) (after line-feed (sentence-most number)))))
 
--- nothing of it is dropped
-pub refusal-grown : (number line : ℕ) → grown [] (refusal number line) ≡ refusal number line
-refusal-grown number line = take-all longest (refusal number line) (omega (arith, refusal-most number line .most))
+-- an array of 831 bytes has room for it
+pub refusal-fits : (number line : ℕ) → length (refusal number line) ≤ longest
+refusal-fits number line = omega (arith, refusal-most number line .most)

@@ -1,26 +1,29 @@
 -- Laws of a sheet: its lines are the parts that a text grows by, and it fits a text.
-use mathlib.Core.Path.{_≡_, refl, sym, ap, subst, _∙_}
+use mathlib.Core.Path.{_≡_, refl, sym, ap, ap₂, subst, _∙_}
 use mathlib.Core.Bool.{Bool, true, false, cond}
 use mathlib.Core.List.{List, [], _∷_, _++_}
-use Prim.Native.Nat.{ℕ}
+use Prim.Native.Nat.{ℕ, _+_, _<_}
+use native.Mathlib.Omega.{arith}
 use borrow.Author.Tests.{eq-eqb, ne-eqb, ltb-true, ltb-false}
 use lib.Dec.{ltb}
-use lib.ListN.{length, drop}
+use lib.IntN.{ℤ}
+use lib.ListN.{length, take, drop}
 use lib.Seq.{take-all}
-use Rattle.plain.specs.Digits.{decimal}
-use Rattle.plain.specs.Plain.{space, line-feed, refused-word, refused-line, longest, printed, buffer-after}
-use Rattle.plain.specs.Grown.{text, grown}
-use Rattle.plain.specs.GrownLaws.{grown-three, grown-five}
+use Rattle.plain.specs.Digits.{digit, decimal}
+use Rattle.plain.specs.DigitLaws.{decimal-one}
+use Rattle.plain.specs.Plain.{space, line-feed, refused-word, at-word, refused-line, longest, printed, buffer-after}
+use Rattle.plain.specs.Grown.{grown, Put}
 use Rattle.plain.specs.Most.{fits-refused}
-use Rattle.plain.specs.declared.Text.{Text}
 use Rattle.plain.specs.declared.Printed.{Printed}
+use Rattle.run.specs.Run.{lent}
 use Rattle.run.specs.declared.Run.{Run}
-use Rattle.reader.specs.Meaning.{meaning}
-use Rattle.reader.specs.declared.Answer as R
+use Rattle.reader.specs.Into.{ReadInto, Opening}
+use Rattle.reader.specs.declared.Answer as meant
+use Rattle.reader.specs.declared.Taken.{Taken}
 use Rattle.indices.specs.declared.Answer.{Answer}
 use Rattle.indices.specs.declared.Index.{Index}
 use Rattle.indices.specs.declared.Index.the-variants as index
-use Rattle.sheet_text.specs.Sheet.{told, head-line, index-line, last-line, lines, SheetDue, refused, accepted, PrintDue, fits, short}
+use Rattle.sheet_text.specs.Sheet.{told, lines, SheetDue, refused, accepted, PrintDue, fits, short}
 use Rattle.sheet_text.specs.Grown.{RunText}
 use Rattle.sheet_text.specs.Longest.{fits-lines}
 
@@ -55,32 +58,33 @@ module _ (a b c d e f g h i : Answer) where
   each P p q r s t u v w x index.Lh = w
   each P p q r s t u v w x index.Lhr = x
 
--- eleven lines that go behind an empty text one after the other
-module _ (m n : ℕ) (A : Index → Answer) where
-  abbrev line : Index → List ℕ
-  line i = index-line i (A i)
-
-  pub lines-grown : {t t1 t2 t3 t4 t5 t6 t7 t8 t9 t10 t11 : List ℕ} → t ≡ [] → t1 ≡ grown t (head-line m n) → t2 ≡ grown t1 (line index.Terminal) → t3 ≡ grown t2 (line index.Shifted) → t4 ≡ grown t3 (line index.Independent) → t5 ≡ grown t4 (line index.Zero) → t6 ≡ grown t5 (line index.Front) → t7 ≡ grown t6 (line index.Hysteresis) → t8 ≡ grown t7 (line index.Repeatability) → t9 ≡ grown t8 (line index.Lh) → t10 ≡ grown t9 (line index.Lhr) → t11 ≡ grown t10 (last-line (A index.Lhr)) → t11 ≡ lines m n A
-  lines-grown {t} {t4} {t8} z e1 e2 e3 e4 e5 e6 e7 e8 e9 e10 e11 =
-      let last = line index.Lh ++ (line index.Lhr ++ last-line (A index.Lhr)) in
-      let middle = line index.Zero ++ (line index.Front ++ (line index.Hysteresis ++ (line index.Repeatability ++ last))) in
-      grown-five t (head-line m n) (line index.Terminal) (line index.Shifted) (line index.Independent) middle e1 e2 e3 e4
-      (grown-five t4 (line index.Zero) (line index.Front) (line index.Hysteresis) (line index.Repeatability) last e5 e6 e7 e8
-      (grown-three t8 (line index.Lh) (line index.Lhr) (last-line (A index.Lhr)) e9 e10 e11))
-      ∙ ap (λ (l : List ℕ). grown l (lines m n A)) z
-      ∙ take-all longest (lines m n A) (fits-lines m n A)
+-- eleven lines that are put one behind the other
+module _ (m n : ℕ) (A : Index → Answer) {o p : List ℕ} {k : ℕ} (w : Put o 0 (lines m n A) p k) where
+  pub lines-put : take k p ≡ lines m n A
+  lines-put = w .is ∙ take-all longest (lines m n A) (fits-lines m n A)
 
 -- ---- the sheet of a byte string that was read
-module _ {s : List ℕ} {a : R.Answer} (e : a ≡ meaning s) where
-  pub sheet-refused : {t : List ℕ} → (a .number ≡ 0 → ⊥) → t ≡ grown [] (refused-line (a .number) (a .place)) → SheetDue s t
-  sheet-refused {t} n f =
-      refused (λ z. n (ap (λ (b : R.Answer). b .number) e ∙ z))
-      (f ∙ take-all longest (refused-line (a .number) (a .place)) (fits-refused (a .number) (a .place)) ∙ ap (λ (b : R.Answer). refused-line (b .number) (b .place)) e)
+module _ {s : List ℕ} {x y : List ℤ} {t : Taken} (e : ReadInto s x y t) where
+  pub sheet-refused : {l : List ℕ} → (t .number ≡ 0 → ⊥) → l ≡ grown [] (refused-line (t .number) (t .place)) → SheetDue s l
+  sheet-refused {l} n f = refused (λ z. n (e .number ∙ z)) (f ∙ take-all longest (refused-line (t .number) (t .place)) (fits-refused (t .number) (t .place)) ∙ ap₂ refused-line (e .number) (e .place))
 
-  pub sheet-accepted : (t : Text) → a .number ≡ 0 → RunText (a .run) t → SheetDue s (text t)
-  sheet-accepted t z f =
-      let g = subst (λ (r : Run). RunText r t) (ap (λ (b : R.Answer). b .run) e) f in
-      accepted (sym (ap (λ (b : R.Answer). b .number) e) ∙ z) (g .answers) (g .due) (g .is)
+  pub sheet-accepted : (p : List ℕ) (k : ℕ) → t .number ≡ 0 → RunText (lent (t .m) (t .n) x y) p k → SheetDue s (take k p)
+  sheet-accepted p k z f =
+      let g = subst (λ (r : Run). RunText r p k) (sym (e .run z)) f in
+      accepted (sym (e .number) ∙ z) (g .answers) (g .due) (g .is)
+
+-- ---- the sheet of a byte string that is refused at its opening
+pub sheet-unopened : {s : List ℕ} {t : Taken} → Opening s t → (t .number ≡ 0 → ⊥) → SheetDue s (refused-line (t .number) 0)
+sheet-unopened o n =
+    let e = o .refuses n in
+    refused (λ z. n (sym (ap (λ (a : meant.Answer). a .number) e) ∙ z)) (sym (ap (λ (a : meant.Answer). refused-line (a .number) (a .place)) e))
+
+-- "refused ", a digit and " at 0"
+pub unopened-line : (number : ℕ) → number < 10 → refused-word ++ ((48 + number) ∷ (at-word ++ (48 ∷ line-feed ∷ []))) ≡ refused-line number 0
+unopened-line number h =
+    let d : 48 + number ≡ digit number = omega arith in
+    let one : (48 + number) ∷ [] ≡ decimal number = ap (λ (k : ℕ). k ∷ []) d ∙ sym (decimal-one number h) in
+    ap₂ (λ (a b : List ℕ). refused-word ++ (a ++ (at-word ++ (b ++ (line-feed ∷ []))))) one (sym (decimal-one 0 (omega arith)))
 
 -- ---- a sheet that was printed
 pub print-due : {s t before after : List ℕ} {q : Printed} → SheetDue s t → q ≡ printed t before → after ≡ buffer-after t before → PrintDue s before after q

@@ -2,126 +2,160 @@
 ghost use mathlib.Core.List.{_∷_, _++_};
 ghost use mathlib.Core.Path.{_≡_};
 ghost use Rattle.plain.specs.Digits.{fraction, percent};
-ghost use Rattle.plain.specs.Plain.{space};
-ghost use Rattle.plain.specs.Grown.{text, grown};
+ghost use Rattle.plain.specs.Plain.{space, refused-line, printed, buffer-after};
+ghost use Prim.Native.Nat.{_<_, _≤_};
+ghost use lib.ListN.{length, take};
+ghost use Rattle.plain.specs.Grown.{Put};
 ghost use Rattle.sheet_text.specs.Sheet.{name, head-line, index-line, last-line, SheetDue, PrintDue};
-ghost use Rattle.sheet_text.specs.Grown.{AnswerLine, RunText};
+ghost use Rattle.run.specs.Run.{lent};
+ghost use Rattle.run.specs.Limits.{verdict};
+ghost use Rattle.sheet_text.specs.Grown.{RunText};
 use indices::Answer;
 use indices::Index;
 use plain::Printed;
-use plain::Text;
-use plain::with_byte;
-use plain::with_bytes;
-use plain::with_decimal;
-use plain::with_fraction;
-use plain::with_number;
-use plain::with_percent;
-use run::Run;
+use plain::put_byte;
+use plain::put_bytes;
+use plain::put_decimal;
+use plain::put_fraction;
+use plain::put_number;
+use plain::put_percent;
 
-fn with_name(t: Text, which: Index) -> Text
-    ensures { λ r. ⌜ text r ≡ grown (text t) (name which) ⌝ }
+fn put_name(out: &mut [u8; 831], at: usize, which: Index) -> usize
+    requires { ⌜ length (now out) ≡ 831 ⌝ }
+    ensures { λ r. ⌜ Put (now (out .entry)) at (name which) (now (out .exit)) r ⌝ }
 {
     match which {
-        Index::Terminal => with_bytes(t, b"terminal"),
-        Index::Shifted => with_bytes(t, b"shifted"),
-        Index::Independent => with_bytes(t, b"independent"),
-        Index::Zero => with_bytes(t, b"zero"),
-        Index::Front => with_bytes(t, b"front"),
-        Index::Hysteresis => with_bytes(t, b"hysteresis"),
-        Index::Repeatability => with_bytes(t, b"repeatability"),
-        Index::Lh => with_bytes(t, b"lh"),
-        Index::Lhr => with_bytes(t, b"lhr"),
+        Index::Terminal => put_bytes(out, at, b"terminal"),
+        Index::Shifted => put_bytes(out, at, b"shifted"),
+        Index::Independent => put_bytes(out, at, b"independent"),
+        Index::Zero => put_bytes(out, at, b"zero"),
+        Index::Front => put_bytes(out, at, b"front"),
+        Index::Hysteresis => put_bytes(out, at, b"hysteresis"),
+        Index::Repeatability => put_bytes(out, at, b"repeatability"),
+        Index::Lh => put_bytes(out, at, b"lh"),
+        Index::Lhr => put_bytes(out, at, b"lhr"),
     }
 }
 
 // The index and the percent.
-fn with_figures(t: Text, a: Answer) -> Text
-    ensures { λ r. ⌜ text r ≡ grown (text t) (fraction (a .index) ++ (space ∷ percent (a .thousandths))) ⌝ }
+fn put_figures(out: &mut [u8; 831], at: usize, a: Answer) -> usize
+    requires { ⌜ length (now out) ≡ 831 ⌝ }
+    ensures { λ r. ⌜ Put (now (out .entry)) at (fraction (a .index) ++ (space ∷ percent (a .thousandths))) (now (out .exit)) r ⌝ }
 {
     let index = a.index;
-    with_percent(with_byte(with_fraction(t, index), b' '), a.thousandths)
+    let over = put_fraction(out, at, index);
+    let gap = put_byte(out, over, b' ');
+    put_percent(out, gap, a.thousandths)
 }
 
-fn with_index(t: Text, which: Index, a: Answer) -> Text
-    ensures { λ r. ⌜ text r ≡ grown (text t) (index-line which a) ⌝ }
+fn put_index(out: &mut [u8; 831], at: usize, which: Index, a: Answer) -> usize
+    requires { ⌜ length (now out) ≡ 831 ⌝ }
+    ensures { λ r. ⌜ Put (now (out .entry)) at (index-line which a) (now (out .exit)) r ⌝ }
 {
-    let named = with_byte(with_name(t, which), b' ');
+    let named = put_name(out, at, which);
+    let gap = put_byte(out, named, b' ');
     let number = a.number;
     if number == 0 {
-        with_byte(with_figures(named, a), b'\n')
-    } else {
-        with_byte(with_number(named, number), b'\n')
+        let told = put_figures(out, gap, a);
+        return put_byte(out, told, b'\n');
     }
+    let told = put_number(out, gap, number);
+    put_byte(out, told, b'\n')
 }
 
 // The slope and the offset.
-fn with_line(t: Text, a: Answer) -> Text
-    ensures { λ r. ⌜ text r ≡ grown (text t) (fraction (a .slope) ++ (space ∷ fraction (a .offset))) ⌝ }
+fn put_line(out: &mut [u8; 831], at: usize, a: Answer) -> usize
+    requires { ⌜ length (now out) ≡ 831 ⌝ }
+    ensures { λ r. ⌜ Put (now (out .entry)) at (fraction (a .slope) ++ (space ∷ fraction (a .offset))) (now (out .exit)) r ⌝ }
 {
     let slope = a.slope;
     let offset = a.offset;
-    with_fraction(with_byte(with_fraction(t, slope), b' '), offset)
+    let over = put_fraction(out, at, slope);
+    let gap = put_byte(out, over, b' ');
+    put_fraction(out, gap, offset)
 }
 
-fn with_last(t: Text, a: Answer) -> Text
-    ensures { λ r. ⌜ text r ≡ grown (text t) (last-line a) ⌝ }
+fn put_last(out: &mut [u8; 831], at: usize, a: Answer) -> usize
+    requires { ⌜ length (now out) ≡ 831 ⌝ }
+    ensures { λ r. ⌜ Put (now (out .entry)) at (last-line a) (now (out .exit)) r ⌝ }
 {
-    let named = with_bytes(t, b"line ");
+    let named = put_bytes(out, at, b"line ");
     let number = a.number;
     if number == 0 {
-        with_byte(with_line(named, a), b'\n')
-    } else {
-        with_byte(with_number(named, number), b'\n')
+        let told = put_line(out, named, a);
+        return put_byte(out, told, b'\n');
     }
+    let told = put_number(out, named, number);
+    put_byte(out, told, b'\n')
 }
 
-fn with_head(t: Text, m: usize, n: usize) -> Text
-    ensures { λ r. ⌜ text r ≡ grown (text t) (head-line m n) ⌝ }
+fn put_head(out: &mut [u8; 831], at: usize, m: usize, n: usize) -> usize
+    requires { ⌜ length (now out) ≡ 831 ⌝ }
+    ensures { λ r. ⌜ Put (now (out .entry)) at (head-line m n) (now (out .exit)) r ⌝ }
 {
-    let points = with_decimal(with_bytes(t, b"points "), m as u64);
-    let cycles = with_decimal(with_bytes(points, b" cycles "), n as u64);
-    with_byte(cycles, b'\n')
+    let one = put_bytes(out, at, b"points ");
+    let points = put_decimal(out, one, m as u64);
+    let two = put_bytes(out, points, b" cycles ");
+    let cycles = put_decimal(out, two, n as u64);
+    put_byte(out, cycles, b'\n')
 }
 
-// The line of an index of a run.
-fn with_answer(t: Text, which: Index, r: Run) -> Text
-    ensures { λ u. ⌜ AnswerLine t which r u ⌝ }
+// The eleven lines of a run that no check refuses.
+fn put_run(out: &mut [u8; 831], m: usize, n: usize, x: &[i64; 11], y: &[i64; 220]) -> usize
+    requires { ⌜ (length (now out) ≡ 831) × (verdict (lent m n (now x) (now y)) .number ≡ 0) ⌝ }
+    ensures { λ k. ⌜ RunText (lent m n (now (x .entry)) (now (y .entry))) (now (out .exit)) k ⌝ }
 {
-    with_index(t, which, indices::index_of(which, r))
+    let q = indices::nine_over(m, n, x, y);
+    let head = put_head(out, 0, m, n);
+    let terminal = put_index(out, head, Index::Terminal, q.terminal);
+    let shifted = put_index(out, terminal, Index::Shifted, q.shifted);
+    let independent = put_index(out, shifted, Index::Independent, q.independent);
+    let zero = put_index(out, independent, Index::Zero, q.zero);
+    let front = put_index(out, zero, Index::Front, q.front);
+    let hysteresis = put_index(out, front, Index::Hysteresis, q.hysteresis);
+    let repeatability = put_index(out, hysteresis, Index::Repeatability, q.repeatability);
+    let lh = put_index(out, repeatability, Index::Lh, q.lh);
+    let a = q.lhr;
+    let lhr = put_index(out, lh, Index::Lhr, a);
+    put_last(out, lhr, a)
 }
 
-// The eleven lines of a run.
-fn run_text(r: Run) -> Text
-    ensures { λ t. ⌜ RunText r t ⌝ }
+// The sheet of any byte string: a run that was read needs no second check.
+fn put_file(out: &mut [u8; 831], file: &[u8]) -> usize
+    requires { ⌜ length (now out) ≡ 831 ⌝ }
+    ensures due { λ k. ⌜ SheetDue (now (file .entry)) (take k (now (out .exit))) ⌝ }
+    ensures most { λ k. ⌜ k ≤ 831 ⌝ }
+    ensures long { λ _. ⌜ length (now (out .exit)) ≡ 831 ⌝ }
 {
-    let head = with_head(plain::empty(), r.m, r.n);
-    let terminal = with_answer(head, Index::Terminal, r);
-    let shifted = with_answer(terminal, Index::Shifted, r);
-    let independent = with_answer(shifted, Index::Independent, r);
-    let zero = with_answer(independent, Index::Zero, r);
-    let front = with_answer(zero, Index::Front, r);
-    let hysteresis = with_answer(front, Index::Hysteresis, r);
-    let repeatability = with_answer(hysteresis, Index::Repeatability, r);
-    let lh = with_answer(repeatability, Index::Lh, r);
-    let lhr = indices::index_of(Index::Lhr, r);
-    with_last(with_index(lh, Index::Lhr, lhr), lhr)
-}
-
-fn text_of(file: &[u8]) -> Text
-    ensures { λ t. ⌜ SheetDue (now (file .entry)) (text t) ⌝ }
-{
-    let a = reader::read(file);
-    let number = a.number;
-    if number != 0 {
-        return plain::refused_text(number, a.place);
+    let mut x = [0; 11];
+    let mut y = [0; 220];
+    let t = reader::read_into(file, &mut x, &mut y);
+    if t.number != 0 {
+        return plain::put_refused(out, 0, t.number, t.place);
     }
-    let r = a.run;
-    run_text(r)
+    put_run(out, t.m, t.n, &x, &y)
 }
 
-// The sheet of any byte string, at the front of a lent buffer.
+// The line of a file that is refused at its opening, at place 0 by a number of one digit: of 15 bytes, so that such a file waits for no larger array.
+fn print_unopened(number: usize, out: &mut [u8]) -> Printed
+    requires { ⌜ number < 10 ⌝ }
+    ensures answer { λ q. ⌜ q ≡ printed (refused-line number 0) (now (out .entry)) ⌝ }
+    ensures after { λ _. ⌜ now (out .exit) ≡ buffer-after (refused-line number 0) (now (out .entry)) ⌝ }
+{
+    let mut line = *b"refused 0 at 0\n";
+    line[8] = 48 + number as u8;
+    plain::print(&line[..], out)
+}
+
+// The sheet of any byte string, at the front of a lent buffer. The opening is asked first, since most of the time of a short refusal would go into the zeros of the arrays.
 pub fn sheet(file: &[u8], out: &mut [u8]) -> Printed
     ensures { λ q. ⌜ PrintDue (now (file .entry)) (now (out .entry)) (now (out .exit)) q ⌝ }
 {
-    plain::print_text(text_of(file), out)
+    let t = reader::opening(file);
+    if t.number != 0 {
+        return print_unopened(t.number, out);
+    }
+    let mut b = [0u8; 831];
+    let n = put_file(&mut b, file);
+    plain::print(&b[..n], out)
 }

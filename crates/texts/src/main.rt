@@ -5,29 +5,32 @@
 // 1 and a text of at most 65,600 bytes: its run file in a buffer of at most 2,048 bytes; where it is refused, what tells it in a buffer of 80.
 // Of each answer the numbers are printed on a line, then the whole buffer, then a line feed.
 use libc::STDIN_FILENO;
-use libc::STDOUT_FILENO;
 use trial::Next;
+use trial::Page;
 
 // More requests than this are not read: a loop has to end.
 const MOST: u32 = 1000000;
 
-fn print_buffer(out: &[u8]) {
-    trial::print_line_end();
-    io::write_all(STDOUT_FILENO, out);
-    trial::print_line_end();
+fn put_buffer(page: &mut Page, at: &mut usize, out: &[u8]) {
+    trial::put_line_end(page, at);
+    trial::put_bytes(page, at, out);
+    trial::put_line_end(page, at);
 }
 
-fn print_number(n: u64) {
-    trial::print_space();
-    trial::print_count(n);
+fn put_number(page: &mut Page, at: &mut usize, n: u64) {
+    trial::put_space(page, at);
+    trial::put_count(page, at, n);
 }
 
 fn print_listing(file: &[u8], out: &mut [u8]) {
+    let mut page = trial::empty_page();
+    let mut at = 0;
     let q = listing_text::list(file, out);
-    io::write_all(STDOUT_FILENO, b"listing");
-    print_number(q.number as u64);
-    print_number(q.len as u64);
-    print_buffer(out);
+    trial::put_bytes(&mut page, &mut at, b"listing");
+    put_number(&mut page, &mut at, q.number as u64);
+    put_number(&mut page, &mut at, q.len as u64);
+    put_buffer(&mut page, &mut at, out);
+    trial::print_page(&page, at);
 }
 
 fn answer_listing(file: &[u8], room: usize) {
@@ -37,25 +40,28 @@ fn answer_listing(file: &[u8], room: usize) {
     }
 }
 
-fn print_refusal(number: u8, line: usize) {
+fn put_refusal(page: &mut Page, at: &mut usize, number: u8, line: usize) {
     let mut out = [170u8; 80];
     let q = sentences::refusal(number, line, &mut out);
-    io::write_all(STDOUT_FILENO, b"refusal");
-    print_number(q.number as u64);
-    print_number(q.len as u64);
-    print_buffer(&out);
+    trial::put_bytes(page, at, b"refusal");
+    put_number(page, at, q.number as u64);
+    put_number(page, at, q.len as u64);
+    put_buffer(page, at, &out);
 }
 
 fn print_typed(text: &[u8], out: &mut [u8]) {
+    let mut page = trial::empty_page();
+    let mut at = 0;
     let q = typed_text::run_file(text, out);
-    io::write_all(STDOUT_FILENO, b"typed");
-    print_number(q.number as u64);
-    print_number(q.line as u64);
-    print_number(q.len as u64);
-    print_buffer(out);
+    trial::put_bytes(&mut page, &mut at, b"typed");
+    put_number(&mut page, &mut at, q.number as u64);
+    put_number(&mut page, &mut at, q.line as u64);
+    put_number(&mut page, &mut at, q.len as u64);
+    put_buffer(&mut page, &mut at, out);
     if q.number != 0 {
-        print_refusal(q.number, q.line);
+        put_refusal(&mut page, &mut at, q.number, q.line);
     }
+    trial::print_page(&page, at);
 }
 
 fn answer_text(text: &[u8], room: usize) {

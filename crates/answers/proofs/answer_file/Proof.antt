@@ -28,11 +28,11 @@ read-full-requires c κs = search needs
 array-share-prefix-b : tie.Need-array-share-prefix-b
 array-share-prefix-b c = simp length-append (omega arith)
 
-slice-aggregate-print-file : tie.Need-slice-aggregate-print-file
-slice-aggregate-print-file c = sym (length-take-le _ _ (simp length-append (omega arith)))
+slice-aggregate-put-file : tie.Need-slice-aggregate-put-file
+slice-aggregate-put-file c = sym (length-take-le _ _ (simp length-append (omega arith)))
 
-print-file-requires : tie.Need-print-file-requires
-print-file-requires c κs = search needs
+put-file-requires : tie.Need-put-file-requires
+put-file-requires c κs = search needs
 
 same-length : tie.Need-same-length
 same-length c = search needs
@@ -54,8 +54,8 @@ answer-file-spec =
     slice-aggregate-read-full
     read-full-requires
     array-share-prefix-b
-    slice-aggregate-print-file
-    print-file-requires
+    slice-aggregate-put-file
+    put-file-requires
     same-length
     returns-2
     returns-3)

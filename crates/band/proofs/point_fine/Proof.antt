@@ -5,17 +5,17 @@ use borrow.Author.Needs.{needs}
 use lib.Signed.{leZ}
 use Rattle.whole.specs.Between.{between}
 use Rattle.units.specs.declared.Input.{Input}
-use Rattle.units.specs.declared.Sum.{Sum}
+use Rattle.units.specs.declared.Part.{Part}
 use Rattle.limits.specs.Limits.{in-x}
 use Rattle.band.specs.Band.{most-v}
 use Rattle.band.proofs.point_fine.Statement.{statement}
 use Rattle.band.proofs.point_fine.Tie as tie
 
-low-at-requires : tie.Need-low-at-requires
-low-at-requires c κs = search needs
+part-at-requires : tie.Need-part-at-requires
+part-at-requires c κs = search needs
 
-high-at-requires : tie.Need-high-at-requires
-high-at-requires c κs = search needs
+part-at-requires-2 : tie.Need-part-at-requires-2
+part-at-requires-2 c κs = search needs
 
 input-at-requires : tie.Need-input-at-requires
 input-at-requires c κs = search needs
@@ -29,17 +29,17 @@ rises-requires c κs = search needs
 both-requires : tie.Need-both-requires
 both-requires c κs = search needs
 
-small-sum-requires : tie.Need-small-sum-requires
-small-sum-requires c κs = search needs
+is-small-requires : tie.Need-is-small-requires
+is-small-requires c κs = search needs
 
-small-sum-requires-2 : tie.Need-small-sum-requires-2
-small-sum-requires-2 c κs = search needs
+is-small-requires-2 : tie.Need-is-small-requires-2
+is-small-requires-2 c κs = search needs
 
 both-requires-2 : tie.Need-both-requires-2
 both-requires-2 c κs = search needs
 
-not-above-requires : tie.Need-not-above-requires
-not-above-requires c κs = search needs
+is-not-above-requires : tie.Need-is-not-above-requires
+is-not-above-requires c κs = search needs
 
 both-requires-3 : tie.Need-both-requires-3
 both-requires-3 c κs = search needs
@@ -60,23 +60,23 @@ returns c =
     (input .both .ensures ∙ ap₂ _&&_ (read .in-x .ensures ∙ ap (λ (v : Input). in-x (v .count)) (read .before .input-at .ensures)) (input .before .rises .ensures))
     (c .before .both3 .ensures
     ∙ ap₂ _&&_
-    (values .both2 .ensures ∙ ap₂ _&&_ (values .before .before .small-sum .ensures ∙ ap (λ (v : Sum). between most-v (v .count)) (low .low-at .ensures)) (values .before .small-sum2 .ensures ∙ ap (λ (v : Sum). between most-v (v .count)) (high .high-at .ensures)))
-    (order .not-above .ensures ∙ ap₂ (λ (a b : Sum). leZ (a .count) (b .count)) (low .low-at .ensures) (high .high-at .ensures)))
+    (values .both2 .ensures ∙ ap₂ _&&_ (values .before .before .is-small .ensures ∙ ap (λ (v : Part). between most-v (v .count)) (low .part-at .ensures)) (values .before .is-small2 .ensures ∙ ap (λ (v : Part). between most-v (v .count)) (high .part-at2 .ensures)))
+    (order .is-not-above .ensures ∙ ap₂ (λ (a b : Part). leZ (a .count) (b .count)) (low .part-at .ensures) (high .part-at2 .ensures)))
 
 pub point-fine-spec : {M : Type 1} → statement M
 point-fine-spec =
     tie.close
     (tie.spec
-    low-at-requires
-    high-at-requires
+    part-at-requires
+    part-at-requires-2
     input-at-requires
     in-x-requires
     rises-requires
     both-requires
-    small-sum-requires
-    small-sum-requires-2
+    is-small-requires
+    is-small-requires-2
     both-requires-2
-    not-above-requires
+    is-not-above-requires
     both-requires-3
     both-requires-4
     returns)

@@ -2,16 +2,16 @@
 use Prim.Native.Nat.{_-_}
 use borrow.Author.Needs.{needs}
 use Rattle.whole.specs.Every.{Tested, tested-none, tested-more, tested-all}
-use Rattle.band.specs.Band.{points}
+use Rattle.band.specs.Band.{lent}
 use Rattle.band.specs.Admit.{point-ok}
 use Rattle.band.proofs.points_fine.Statement.{statement}
 use Rattle.band.proofs.points_fine.Tie as tie
 
 abbrev Inv-loop : tie.InvT-loop
-Inv-loop g m ok₀ i₀ ok i = Tested (point-ok (points g)) m i ok
+Inv-loop m d x low high ok₀ i₀ ok i = Tested (point-ok (lent m d x low high)) m i ok
 
 abbrev μ-loop : tie.MeasureT-loop
-μ-loop g m ok₀ i₀ ok i = m - i
+μ-loop m d x low high ok₀ i₀ ok i = m - i
 
 loop-holds : tie.Need-loop-holds Inv-loop μ-loop
 loop-holds c = tested-none _ _
@@ -37,4 +37,15 @@ returns : tie.Need-returns Inv-loop μ-loop
 returns c = tested-all (c .before .loop .inv) (c .loop-test .left)
 
 pub points-fine-spec : {M : Type 1} → statement M
-points-fine-spec = tie.close (tie.spec Inv-loop μ-loop loop-holds point-fine-requires both-requires add-i loop-less loop-again returns)
+points-fine-spec =
+    tie.close
+    (tie.spec
+    Inv-loop
+    μ-loop
+    loop-holds
+    point-fine-requires
+    both-requires
+    add-i
+    loop-less
+    loop-again
+    returns)

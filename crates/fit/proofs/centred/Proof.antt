@@ -7,7 +7,7 @@ use Rattle.whole.specs.Poly.{var, lit, _⊕_, _⊖_, _⊗_}
 use Rattle.whole.specs.Sign.{positive-mul, positive-nat, le-sign, le-trans}
 use Rattle.whole.specs.Machine.{safe}
 use Rattle.band.specs.Band.{most-d}
-use Rattle.fit.specs.Ends.{most-a, most-b, most-s, most-e}
+use Rattle.fit.specs.Ends.{most-a, most-b, most-gap, most-e}
 use Rattle.fit.specs.PartsLaws.{Written, whole-by, parts-by}
 use Rattle.fit.proofs.centred.Statement.{statement}
 use Rattle.fit.proofs.centred.Tie as tie
@@ -16,7 +16,7 @@ abbrev ρ : tie.Start → List ℤ
 ρ c = c .args .e .a ∷ c .args .e .b ∷ c .args .e .s ∷ c .args .r .lo ∷ c .args .r .hi ∷ pos (c .args .d) ∷ []
 
 abbrev β : List ℕ
-β = most-a ∷ most-b ∷ most-s ∷ most-e ∷ most-e ∷ most-d ∷ []
+β = most-a ∷ most-b ∷ most-gap ∷ most-e ∷ most-e ∷ most-d ∷ []
 
 abbrev four : Written
 four = record { a = lit 2 ⊗ var 0; b = lit 2 ⊗ var 1 ⊕ (var 3 ⊕ var 4); q = lit 2 ⊗ var 2 ⊗ var 5; w = var 4 ⊖ var 3 }

@@ -10,8 +10,8 @@ use Rattle.whole.specs.Sign.{positive-mul, positive-nat, le-trans}
 use Rattle.whole.specs.Machine.{Bounds, safe, ends, sized}
 use Rattle.band.specs.Band.{most-d}
 use Rattle.fit.specs.Parts.{FitParts}
-use Rattle.fit.specs.Greater.{greater, greater-left, greater-size}
-use Rattle.fit.specs.Ends.{most-a, most-b, most-s, most-e}
+use Rattle.whole.specs.Greater.{greater, greater-left, greater-size}
+use Rattle.fit.specs.Ends.{most-a, most-b, most-gap, most-e}
 use Rattle.fit.specs.PartsLaws.{Written, whole-by, parts-by}
 use Rattle.fit.proofs.plain.Statement.{statement}
 use Rattle.fit.proofs.plain.Tie as tie
@@ -20,7 +20,7 @@ abbrev ρ : tie.Start → List ℤ
 ρ c = c .args .e .a ∷ c .args .e .b ∷ c .args .e .s ∷ c .args .r .lo ∷ c .args .r .hi ∷ pos (c .args .d) ∷ []
 
 abbrev β : List ℕ
-β = most-a ∷ most-b ∷ most-s ∷ most-e ∷ most-e ∷ most-d ∷ []
+β = most-a ∷ most-b ∷ most-gap ∷ most-e ∷ most-e ∷ most-d ∷ []
 
 cast-told : tie.Need-cast-told
 cast-told c = search needs
@@ -48,7 +48,7 @@ abbrev σ : tie.After-larger → List ℤ
 σ c = let s = start c in s .args .e .a ∷ s .args .e .b ∷ s .args .e .s ∷ pos (s .args .d) ∷ c .larger .result ∷ []
 
 abbrev β′ : List ℕ
-β′ = most-a ∷ most-b ∷ most-s ∷ most-d ∷ most-e ∷ []
+β′ = most-a ∷ most-b ∷ most-gap ∷ most-d ∷ most-e ∷ []
 
 abbrev four : Written
 four = record { a = var 0; b = var 1; q = var 2 ⊗ var 3; w = var 4 }

@@ -5,8 +5,9 @@ use native.Mathlib.Omega.{arith}
 use lib.IntN.{ℤ, natAbs}
 use Rattle.whole.specs.Every.{FirstNot}
 use Rattle.whole.specs.Machine.{stored}
+use Rattle.band.specs.Line.{Points}
 use Rattle.band.specs.Candidate.{one, num, Greatest}
-use Rattle.band.specs.Band.{points}
+use Rattle.band.specs.Band.{lent}
 use Rattle.search.specs.Twin.{apart}
 use Rattle.search.specs.SearchSize.{num-size}
 use Rattle.search.specs.TwinLaws.{twin-other, twin-same, alone}
@@ -16,23 +17,26 @@ use Rattle.fit.specs.BestLaws.{near, found-is, num-is, pair-best, greate
 use Rattle.fit.proofs.single.Statement.{statement}
 use Rattle.fit.proofs.single.Tie as tie
 
-greatest : (s : tie.Start) → Greatest (points (s .args .g)) (one (s .args .i))
-greatest s = found-is (s .pre .0) (s .pre .1) (s .pre .2)
+abbrev points : tie.Start → Points
+points s = let a = s .args in lent (a .m) (a .d) (a .x .now) (a .low .now) (a .high .now)
 
-width : (s : tie.Start) → stored (s .args .top .num) ≡ num (points (s .args .g)) (one (s .args .i))
-width s = num-is (s .pre .0) (s .pre .1) (s .pre .2)
+greatest : (s : tie.Start) → Greatest (points s) (one (s .args .i))
+greatest s = found-is (s .pre .1) (s .pre .2)
 
-size : (s : tie.Start) → natAbs (num (points (s .args .g)) (one (s .args .i))) ≤ most-e
+width : (s : tie.Start) → stored (s .args .top .num) ≡ num (points s) (one (s .args .i))
+width s = num-is (s .pre .1) (s .pre .2) (s .pre .0)
+
+size : (s : tie.Start) → natAbs (num (points s) (one (s .args .i))) ≤ most-e
 size s = num-size (s .pre .0) (one (s .args .i)) (greatest s .fits)
 
 -- another input was found
-other : (c : tie.Else1) → c .before .twin .result < c .before .before .args .g .m
+other : (c : tie.Else1) → c .before .twin .result < c .before .before .args .m
 other c = omega (arith, c .before .twin .ensures .reach, c .if1 .left)
 
 below : (c : tie.Else2) → c .before .before .twin .result < c .before .before .before .args .i
 below c =
     let t = c .before .before in
-    let n : c .before .before .before .args .i ≡ t .twin .result → ⊥ = twin-other (points (t .before .args .g)) (t .before .args .i) (t .twin .ensures) (other (c .before)) in
+    let n : t .before .args .i ≡ t .twin .result → ⊥ = twin-other (points (t .before)) (t .before .args .i) (t .twin .ensures) (other (c .before)) in
     omega (arith, c .if2 .left, n)
 
 twin-requires : tie.Need-twin-requires
@@ -45,10 +49,10 @@ returns : tie.Need-returns
 returns c =
     let t = c .before .before .before in
     let s = t .before in
-    let g = s .args .g in
+    let m = s .args .m in
     let i = s .args .i in
-    let none : FirstNot (g .m) (apart (points g) i) (g .m) = subst (FirstNot (g .m) (apart (points g) i)) (c .before .before .if1 .taken) (t .twin .ensures) in
-    (s .pre .0, several-best (s .pre .0) i (greatest s) (alone (s .pre .0) (s .pre .1) i (s .pre .2) none) (subst (λ (z : ℤ). WideParts z (g .d) (c .only .result)) (width s) (c .only .ensures)) (size s))
+    let none : FirstNot m (apart (points s) i) m = subst (FirstNot m (apart (points s) i)) (c .before .before .if1 .taken) (t .twin .ensures) in
+    (s .pre .0, several-best (s .pre .0) i (greatest s) (alone (s .pre .1) i (s .pre .2) none) (subst (λ (z : ℤ). WideParts z (s .args .d) (c .only .result)) (width s) (c .only .ensures)) (size s))
 
 middles-requires : tie.Need-middles-requires
 middles-requires c κs = (c .before .before .before .pre .0, c .if2 .taken, other (c .before))
@@ -61,18 +65,16 @@ returns-2 c =
     let e = c .before in
     let t = e .before .before in
     let s = t .before in
-    let P = points (s .args .g) in
     let i = s .args .i in
-    (s .pre .0, pair-best (s .pre .0 .proper) (near (s .pre .0)) i (t .twin .result) (e .if2 .taken) (other (e .before)) (greatest s) (sym (twin-same P i (t .twin .ensures) (other (e .before)))) (c .middles .ensures))
+    (s .pre .0, pair-best (s .pre .0 .proper) (near (s .pre .0)) i (t .twin .result) (e .if2 .taken) (other (e .before)) (greatest s) (sym (twin-same (points s) i (t .twin .ensures) (other (e .before)))) (c .middles .ensures))
 
 returns-3 : tie.Need-returns-3
 returns-3 c =
     let e = c .before in
     let t = e .before .before in
     let s = t .before in
-    let P = points (s .args .g) in
     let i = s .args .i in
-    let q = twin-same P i (t .twin .ensures) (other (e .before)) in
+    let q = twin-same (points s) i (t .twin .ensures) (other (e .before)) in
     (s .pre .0, pair-best (s .pre .0 .proper) (near (s .pre .0)) (t .twin .result) i (below e) (greatest s .fits) (greatest-twin q (other (e .before)) (greatest s)) q (c .middles2 .ensures))
 
 pub single-spec : {M : Type 1} → statement M

@@ -1,53 +1,65 @@
 -- `fit::spread_of` meets its contract: the spread so far holds the smallest and the largest of the heights so far, and the first of them is zero.
-use mathlib.Core.Path.{sym, ap₂, _∙_, subst}
-use Prim.Native.Nat.{_-_, _≤_}
+use mathlib.Core.Path.{ap₂, _∙_}
+use Prim.Native.Nat.{_-_, _<_}
 use native.Mathlib.Omega.{arith}
 use borrow.Author.Needs.{needs, sfits-of}
-use lib.IntN.{natAbs, _+ℤ_, _-ℤ_, _*ℤ_}
+use lib.IntN.{ℤ, _-ℤ_, _*ℤ_}
 use mir.Facts.{toZ-ofZ}
 use Rattle.units.specs.declared.Input.{Input}
-use Rattle.units.specs.declared.Sum.{Sum}
-use Rattle.band.specs.Band.{points, most-x, most-v}
+use Rattle.units.specs.declared.Part.{Part}
+use Rattle.band.specs.Line.{Points}
+use Rattle.band.specs.Band.{lent}
+use Rattle.search.specs.SearchSize.{input-size, low-size}
 use Rattle.fit.specs.Ends.{Ranged}
-use Rattle.fit.specs.EndsLaws.{ranged-none, ranged-more, ranged-all}
+use Rattle.fit.specs.EndsLaws.{above-from, ranged-none, ranged-more, ranged-all}
 use Rattle.fit.proofs.spread_of.Statement.{statement}
 use Rattle.fit.proofs.spread_of.Tie as tie
 
 abbrev Inv-loop : tie.InvT-loop
-Inv-loop g e m r₀ i₀ r i = Ranged (points g) e i r
+Inv-loop m d x low high e p v r₀ i₀ r i = Ranged (lent m d x low high) e i r
 
 abbrev μ-loop : tie.MeasureT-loop
-μ-loop g e m r₀ i₀ r i = m - i
+μ-loop m d x low high e p v r₀ i₀ r i = m - i
 
-loop-holds : tie.Need-loop-holds Inv-loop μ-loop
-loop-holds c = ranged-none (points (c .args .g)) (c .args .e) (c .pre .1) (omega (arith, c .pre .0 .three))
+abbrev points : tie.Start Inv-loop μ-loop → Points
+points s = let a = s .args in lent (a .m) (a .d) (a .x .now) (a .low .now) (a .high .now)
+
+some : (s : tie.Start Inv-loop μ-loop) → 0 < s .args .m
+some s = omega (arith, s .pre .0 .three)
 
 input-at-requires : tie.Need-input-at-requires Inv-loop μ-loop
-input-at-requires c κs = omega (arith, c .loop-test .taken, c .before .before .pre .0 .eleven)
+input-at-requires c κs = search needs
 
-low-at-requires : tie.Need-low-at-requires Inv-loop μ-loop
-low-at-requires c κs = omega (arith, c .before .loop-test .taken, c .before .before .before .pre .0 .eleven)
+part-at-requires : tie.Need-part-at-requires Inv-loop μ-loop
+part-at-requires c κs = search needs
+
+loop-holds : tie.Need-loop-holds Inv-loop μ-loop
+loop-holds c = let s = c .before .before in ranged-none (points s) (s .args .e) (s .pre .1) (some s)
+
+input-at-requires-2 : tie.Need-input-at-requires-2 Inv-loop μ-loop
+input-at-requires-2 c κs = omega (arith, c .loop-test .taken, c .before .before .before .before .pre .0 .eleven)
+
+gap-requires : tie.Need-gap-requires Inv-loop μ-loop
+gap-requires c κs =
+    let l = c .before .before in
+    let s = l .before .before .before in
+    (input-size (s .pre .0) (some s) (l .before .before .input-at .ensures), (input-size (s .pre .0) (c .before .loop-test .taken) (c .input-at2 .ensures), tt))
+
+part-at-requires-2 : tie.Need-part-at-requires-2 Inv-loop μ-loop
+part-at-requires-2 c κs = let t = c .before .before in omega (arith, t .loop-test .taken, t .before .before .before .before .pre .0 .eleven)
+
+rise-requires : tie.Need-rise-requires Inv-loop μ-loop
+rise-requires c κs =
+    let t = c .before .before .before in
+    let l = t .before in
+    let s = l .before .before .before in
+    (low-size (s .pre .0) (some s) (l .before .part-at .ensures), (low-size (s .pre .0) (t .loop-test .taken) (c .part-at2 .ensures), tt))
 
 height-requires : tie.Need-height-requires Inv-loop μ-loop
-height-requires c κs =
-    let start = c .before .before .before .before in
-    let i = c .before .before .before .loop .i in
-    let t = start .pre .1 in (
-      t .a-most,
-      (
-        t .b-most,
-        (
-          t .s-most,
-          (
-            subst (λ (v : Input). natAbs (v .count) ≤ most-x) (sym (c .before .input-at .ensures)) (start .pre .0 .inputs i (c .before .before .loop-test .taken)),
-            (subst (λ (v : Sum). natAbs (v .count) ≤ most-v) (sym (c .low-at .ensures)) (start .pre .0 .lows i (c .before .before .loop-test .taken)), tt),
-          ),
-        ),
-      ),
-    )
+height-requires c κs = search needs
 
 wider-requires : tie.Need-wider-requires Inv-loop μ-loop
-wider-requires c κs = tt
+wider-requires c κs = search needs
 
 add-i : tie.Need-add-i Inv-loop μ-loop
 add-i c = search needs
@@ -57,16 +69,37 @@ loop-less c = search needs
 
 loop-again : tie.Need-loop-again Inv-loop μ-loop
 loop-again c =
-    let e = c .before .before .before .before in
-    let line = e .before .before .args .e in
-    ranged-more (e .before .loop .inv) (e .loop-test .taken)
-    (toZ-ofZ (sfits-of (c .before .height .ok))
-    ∙ c .before .height .ensures
-    ∙ ap₂ (λ (x : Input) (v : Sum). line .s *ℤ v .count -ℤ (line .a *ℤ x .count +ℤ line .b)) (c .before .before .before .input-at .ensures) (c .before .before .low-at .ensures))
-    (c .wider .ensures)
+    let h = c .before in
+    let v = h .before in
+    let g = v .before .before in
+    let t = g .before .before in
+    let l = t .before in
+    let s = l .before .before .before in
+    let e = s .args .e in
+    let lift = toZ-ofZ (sfits-of (v .rise .ok)) ∙ v .rise .ensures .0 ∙ ap₂ (λ (w z : Part). w .count -ℤ z .count) (v .before .part-at2 .ensures) (l .before .part-at .ensures) in
+    let run = toZ-ofZ (sfits-of (g .gap .ok)) ∙ g .gap .ensures .0 ∙ ap₂ (λ (z x : Input). z .count -ℤ x .count) (g .before .input-at2 .ensures) (l .before .before .input-at .ensures) in
+    ranged-more (l .loop .inv) (t .loop-test .taken)
+    (toZ-ofZ (sfits-of (h .height .ok)) ∙ h .height .ensures ∙ ap₂ (λ (y z : ℤ). e .s *ℤ y -ℤ e .a *ℤ z) lift run ∙ above-from (points s) e (s .pre .1) (l .loop .i)) (c .wider .ensures)
 
 returns : tie.Need-returns Inv-loop μ-loop
 returns c = ranged-all (c .before .loop .inv) (c .loop-test .left)
 
 pub spread-of-spec : {M : Type 1} → statement M
-spread-of-spec = tie.close (tie.spec Inv-loop μ-loop loop-holds input-at-requires low-at-requires height-requires wider-requires add-i loop-less loop-again returns)
+spread-of-spec =
+    tie.close
+    (tie.spec
+    Inv-loop
+    μ-loop
+    input-at-requires
+    part-at-requires
+    loop-holds
+    input-at-requires-2
+    gap-requires
+    part-at-requires-2
+    rise-requires
+    height-requires
+    wider-requires
+    add-i
+    loop-less
+    loop-again
+    returns)

@@ -1,41 +1,30 @@
--- `fit::terminal` meets its contract: the heights above the terminal line are known to range from `lo` to `hi`, and so `Due` has it that the numbers tell the terminal line.
+-- `fit::terminal` meets its contract: of points that are admitted, with one value at each input, `terminal_of` has the line, and of others none is due.
 use mathlib.Core.Path.{sym, _∙_}
 use borrow.Author.Needs.{needs}
 use borrow.Author.Tests.{not-true, not-false}
-use Rattle.band.specs.Band.{Admitted, Level}
+use Rattle.band.specs.Line.{Points, OneValue}
+use Rattle.band.specs.Band.{lent, Admitted}
 use Rattle.band.specs.AdmitLaws.{drawn-yes, drawn-no}
-use Rattle.fit.specs.Ends.{Ready}
-use Rattle.fit.specs.EndsLaws.{ready}
-use Rattle.fit.specs.Due.{terminal-due}
 use Rattle.fit.proofs.terminal.Statement.{statement}
 use Rattle.fit.proofs.terminal.Tie as tie
 
-drawn : (c : tie.Else1) → Admitted (c .before .before .args .g) × Level (c .before .before .args .g)
-drawn c = drawn-yes (c .before .before .args .g) (sym (c .before .is-drawn .ensures) ∙ not-false (c .before .is-drawn .result) (c .if1 .left))
+abbrev points : tie.Start → Points
+points s = let a = s .args in lent (a .m) (a .d) (a .x .now) (a .low .now) (a .high .now)
 
-numbers : (c : tie.After-spread-of) → Ready (c .before .outer .result) (c .spread-of .result) (c .before .before .before .before .args .g .d)
-numbers c = ready (drawn (c .before .before) .0) (c .before .outer .ensures) (c .spread-of .ensures)
+drawn : (c : tie.Else1) → let P = points (c .before .before) in Admitted P × OneValue P
+drawn c = drawn-yes (points (c .before .before)) (sym (c .before .is-drawn .ensures) ∙ not-false (c .before .is-drawn .result) (c .if1 .left))
 
 is-drawn-requires : tie.Need-is-drawn-requires
 is-drawn-requires c κs = search needs
 
 returns : tie.Need-returns
-returns c = drawn-no (c .before .before .args .g) (sym (c .before .is-drawn .ensures) ∙ not-true (c .before .is-drawn .result) (c .if1 .taken))
+returns c = drawn-no (points (c .before .before)) (sym (c .before .is-drawn .ensures) ∙ not-true (c .before .is-drawn .result) (c .if1 .taken))
 
-outer-requires : tie.Need-outer-requires
-outer-requires c κs = drawn c .0
-
-spread-of-requires : tie.Need-spread-of-requires
-spread-of-requires c κs = (drawn (c .before) .0, c .outer .ensures)
-
-plain-requires : tie.Need-plain-requires
-plain-requires c κs = numbers c
+terminal-of-requires : tie.Need-terminal-of-requires
+terminal-of-requires c κs = drawn c
 
 returns-2 : tie.Need-returns-2
-returns-2 c =
-    let s = c .before in
-    let d = drawn (s .before .before) in
-    (d .0, d .1, terminal-due (d .0) (d .1) (s .before .outer .ensures) (s .spread-of .ensures) (numbers s) (c .plain .ensures))
+returns-2 c = let d = drawn (c .before) in (d .0, d .1, c .terminal-of .ensures)
 
 pub terminal-spec : {M : Type 1} → statement M
-terminal-spec = tie.close (tie.spec is-drawn-requires returns outer-requires spread-of-requires plain-requires returns-2)
+terminal-spec = tie.close (tie.spec is-drawn-requires returns terminal-of-requires returns-2)

@@ -3,7 +3,7 @@ use mathlib.Core.Path.{_≡_, ap₂, _∙_}
 use borrow.Author.Needs.{needs, sfits-of}
 use mir.Facts.{toZ-ofZ}
 use Rattle.whole.specs.Machine.{stored}
-use Rattle.fit.specs.Greater.{smaller, greater}
+use Rattle.whole.specs.Greater.{smaller, greater}
 use Rattle.fit.proofs.wider.Statement.{statement}
 use Rattle.fit.proofs.wider.Tie as tie
 

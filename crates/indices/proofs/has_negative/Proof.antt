@@ -1,9 +1,8 @@
--- `indices::has_negative` meets its contract: what lies in the machine's bits is the first input itself.
+-- `indices::has_negative` meets its contract: it is the test of the first input.
 use mathlib.Core.Path.{ap, _∙_}
-use borrow.Author.Needs.{needs, sfits-of}
-use lib.IntN.{ℤ, pos}
+use borrow.Author.Needs.{needs}
+use lib.IntN.{pos}
 use lib.Signed.{ltZ}
-use mir.Facts.{toZ-ofZ}
 use Rattle.units.specs.declared.Input.{Input}
 use Rattle.indices.proofs.has_negative.Statement.{statement}
 use Rattle.indices.proofs.has_negative.Tie as tie
@@ -11,8 +10,11 @@ use Rattle.indices.proofs.has_negative.Tie as tie
 input-at-requires : tie.Need-input-at-requires
 input-at-requires c κs = search needs
 
+is-below-requires : tie.Need-is-below-requires
+is-below-requires c κs = search needs
+
 returns : tie.Need-returns
-returns c = ap (λ (z : ℤ). ltZ z (pos 0)) (toZ-ofZ (sfits-of (c .struct-told .given .0 .1)) ∙ ap (λ (v : Input). v .count) (c .before .input-at .ensures))
+returns c = c .is-below .ensures ∙ ap (λ (v : Input). ltZ (v .count) (pos 0)) (c .before .input-at .ensures)
 
 pub has-negative-spec : {M : Type 1} → statement M
-has-negative-spec = tie.close (tie.spec input-at-requires returns)
+has-negative-spec = tie.close (tie.spec input-at-requires is-below-requires returns)

@@ -1,22 +1,15 @@
--- `indices::span_of` meets its contract: the inputs of a checked run are of bounded size.
-use mathlib.Core.Path.{_≡_, sym, ap₂, _∙_, subst}
-use Prim.Native.Nat.{ℕ, _-_, _≤_}
-use native.Mathlib.Omega.{arith}
-use borrow.Author.Needs.{needs}
+-- `indices::span_of` meets its contract: the first and the last input are of bounded size.
+use mathlib.Core.Path.{_≡_, sym, ap, ap₂, _∙_, subst}
+use Prim.Native.Nat.{ℕ, _≤_}
+use borrow.Author.Needs.{needs, sfits-of}
 use lib.IntN.{natAbs, _-ℤ_}
-use Rattle.whole.specs.Size.{size-sub}
+use mir.Facts.{toZ-ofZ}
+use Rattle.whole.specs.Machine.{stored}
+use Rattle.units.specs.Units.{most-x}
 use Rattle.units.specs.declared.Input.{Input}
-use Rattle.run.specs.Run.{input}
-use Rattle.indices.specs.Due.{span}
+use Rattle.indices.specs.Basis.{span-in}
 use Rattle.indices.proofs.span_of.Statement.{statement}
 use Rattle.indices.proofs.span_of.Tie as tie
-
--- the first input and the last
-first : (c : tie.Start) → natAbs (input (c .args .r) 0) ≤ 30000
-first c = c .pre .inputs 0 (omega (arith, c .pre .m-least))
-
-last : (c : tie.Start) → natAbs (input (c .args .r) (c .args .r .m - 1)) ≤ 30000
-last c = c .pre .inputs (c .args .r .m - 1) (omega (arith, c .pre .m-least))
 
 input-at-requires : tie.Need-input-at-requires
 input-at-requires c κs = search needs
@@ -30,14 +23,17 @@ input-at-requires-2 c κs = search needs
 gap-requires : tie.Need-gap-requires
 gap-requires c κs =
     let s = c .before .before in
-    (subst (λ (v : Input). natAbs (v .count) ≤ 30000) (sym (c .before .input-at .ensures)) (first s), subst (λ (v : Input). natAbs (v .count) ≤ 30000) (sym (c .input-at2 .ensures)) (last s))
+    (subst (λ (v : Input). natAbs (v .count) ≤ most-x) (sym (c .before .input-at .ensures)) (s .pre .first), (subst (λ (v : Input). natAbs (v .count) ≤ most-x) (sym (c .input-at2 .ensures)) (s .pre .last), tt))
+
+size-requires : tie.Need-size-requires
+size-requires c κs = search needs
 
 returns : tie.Need-returns
 returns c =
-    let s = c .before .before .before in
-    let r = s .args .r in
-    let e : c .gap .result ≡ span r = c .gap .ensures ∙ ap₂ (λ (a b : Input). natAbs (b .count -ℤ a .count)) (c .before .before .input-at .ensures) (c .before .input-at2 .ensures) in
-    (e, subst (λ (n : ℕ). n ≤ 60000) (sym e) (size-sub (input r (r .m - 1)) (input r 0) 30000 30000 (last s) (first s)))
+    let g = c .before in
+    let f : stored (g .gap .result) ≡ g .gap .result = toZ-ofZ (sfits-of (g .gap .ok)) in
+    let e = c .size .ensures ∙ ap natAbs f in
+    (e ∙ ap natAbs (g .gap .ensures .0 ∙ ap₂ (λ (a b : Input). b .count -ℤ a .count) (g .before .before .input-at .ensures) (g .before .input-at2 .ensures)), subst (λ (n : ℕ). n ≤ 60000) (sym e) (g .gap .ensures .1))
 
 pub span-of-spec : {M : Type 1} → statement M
-span-of-spec = tie.close (tie.spec input-at-requires sub-input-at input-at-requires-2 gap-requires returns)
+span-of-spec = tie.close (tie.spec input-at-requires sub-input-at input-at-requires-2 gap-requires size-requires returns)

@@ -1,19 +1,20 @@
--- `pin::greatest` meets its contract: before each turn the best of the pairs so far.
+-- `pin::greatest` meets its contract: before each turn the pairs of the inputs up to i with later ones are tried, and at the end every pair is, in one order.
 use mathlib.Core.Path.{_≡_, subst}
 use Prim.Native.Nat.{ℕ, _-_, _≤_}
 use native.Mathlib.Omega.{arith}
 use borrow.Author.Needs.{needs}
-use Rattle.band.specs.Band.{points}
-use Rattle.pin.specs.Search.{BestOf}
-use Rattle.pin.specs.SearchLaws.{last-fits, best-start}
+use Rattle.whole.specs.Sign.{lt-sign}
+use Rattle.band.specs.Band.{lent}
+use Rattle.pin.specs.Search.{Firsts}
+use Rattle.pin.specs.SearchLaws.{last-fits, firsts-none, firsts-more, found}
 use Rattle.pin.proofs.greatest.Statement.{statement}
 use Rattle.pin.proofs.greatest.Tie as tie
 
 abbrev Inv-loop : tie.InvT-loop
-Inv-loop g p m best₀ k₀ best k = BestOf (points g) p k best × (k ≤ 121)
+Inv-loop m d x low high p n best₀ i₀ best i = Firsts (lent m d x low high) p i best × (n ≤ i) × (i ≤ m)
 
 abbrev μ-loop : tie.MeasureT-loop
-μ-loop g p m best₀ k₀ best k = 121 - k
+μ-loop m d x low high p n best₀ i₀ best i = m - i
 
 sub-pair-of : tie.Need-sub-pair-of Inv-loop μ-loop
 sub-pair-of c = omega (arith, c .pre .0 .admitted .three)
@@ -22,29 +23,35 @@ sub-pair-of-2 : tie.Need-sub-pair-of-2 Inv-loop μ-loop
 sub-pair-of-2 c = omega (arith, c .pre .0 .admitted .three)
 
 pair-of-requires : tie.Need-pair-of-requires Inv-loop μ-loop
-pair-of-requires c κs = let f = last-fits (c .pre .0) (c .pre .1) in (c .pre .0, f .i-fits, f .j-fits)
+pair-of-requires c κs = (c .pre .0, last-fits (c .pre .0) (c .pre .1))
 
 loop-holds : tie.Need-loop-holds Inv-loop μ-loop
-loop-holds c = (best-start (c .pair-of .ensures) (last-fits (c .before .pre .0) (c .before .pre .1)), omega arith)
+loop-holds c = let s = c .before in (firsts-none (s .pre .1) (c .pair-of .ensures .paired), omega arith, omega (arith, s .pre .1 .most, s .pre .0 .admitted .three))
 
-consider-requires : tie.Need-consider-requires Inv-loop μ-loop
-consider-requires c κs = (c .before .before .before .pre .0, c .before .loop .inv .0)
+over-partners-requires : tie.Need-over-partners-requires Inv-loop μ-loop
+over-partners-requires c κs =
+    let l = c .before in
+    let s = l .before .before in
+    let h = c .loop-test .taken in
+    ((s .pre .0, l .loop .inv .0 .paired), (h, lt-sign (s .pre .1 .after (l .loop .i) (l .loop .inv .1) h)))
 
-add-k : tie.Need-add-k Inv-loop μ-loop
-add-k c = search needs
+add-i : tie.Need-add-i Inv-loop μ-loop
+add-i c = search needs
 
 loop-less : tie.Need-loop-less Inv-loop μ-loop
 loop-less c = search needs
 
 loop-again : tie.Need-loop-again Inv-loop μ-loop
-loop-again c = (c .consider .ensures, omega (arith, c .before .loop-test .taken))
+loop-again c =
+    let l = c .before .before in
+    (firsts-more (l .loop .inv .0) (c .over-partners .ensures), omega (arith, l .loop .inv .1), omega (arith, c .before .loop-test .taken))
 
 returns : tie.Need-returns Inv-loop μ-loop
 returns c =
     let l = c .before .loop in
-    let s = c .before .before .before in
-    let e : l .k ≡ 121 = omega (arith, l .inv .1, c .loop-test .left) in
-    subst (λ (n : ℕ). BestOf (points (s .args .g)) (s .args .p) n (l .best)) e (l .inv .0)
+    let a = c .before .before .before .args in
+    let e : l .i ≡ a .m = omega (arith, l .inv .2, c .loop-test .left) in
+    found (subst (λ (n : ℕ). Firsts (lent (a .m) (a .d) (a .x .now) (a .low .now) (a .high .now)) (a .p) n (l .best)) e (l .inv .0))
 
 pub greatest-spec : {M : Type 1} → statement M
 greatest-spec =
@@ -56,8 +63,8 @@ greatest-spec =
     sub-pair-of-2
     pair-of-requires
     loop-holds
-    consider-requires
-    add-k
+    over-partners-requires
+    add-i
     loop-less
     loop-again
     returns)

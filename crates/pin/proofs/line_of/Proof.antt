@@ -1,78 +1,105 @@
--- `pin::line_of` meets its contract: the pair is the greatest, so its width is not negative, and its numbers are of bounded size.
-use mathlib.Core.Path.{_≡_, sym, ap, ap₂, _∙_, subst}
+-- `pin::line_of` meets its contract: the pair's numbers are of bounded size and its width is not negative, so that they may be told.
+use mathlib.Core.Path.{_≡_, refl, sym, ap, ap₂, _∙_, subst}
 use mathlib.Core.List.{List, _∷_, []}
-use Prim.Native.Nat.{ℕ, _≤_}
-use lib.IntN.{ℤ, pos, natAbs, _+ℤ_, _-ℤ_, _*ℤ_}
-use lib.Signed.{_≤ℤ_, _<ℤ_}
-use Rattle.whole.specs.Poly.{var, _⊕_}
-use Rattle.whole.specs.Machine.{Bounds, stored, safe, ends, stays}
-use Rattle.band.specs.Band.{points}
-use Rattle.fit.specs.PartsLaws.{parts-is}
-use Rattle.pin.specs.Pair.{rise}
-use Rattle.pin.specs.PairLaws.{den-positive, num-sign}
+use Prim.Native.Nat.{ℕ}
+use borrow.Author.Needs.{needs}
+use lib.IntN.{ℤ, pos, _+ℤ_, _-ℤ_, _*ℤ_}
+use lib.Signed.{_<ℤ_}
+use Rattle.whole.specs.Poly.{var, _⊕_, _⊖_, _⊗_}
+use Rattle.whole.specs.Ring.{ring}
+use Rattle.whole.specs.Sign.{positive-mul, positive-nat}
+use Rattle.whole.specs.Machine.{Bounds, safe}
+use Rattle.band.specs.Line.{Points}
+use Rattle.band.specs.Band.{lent, most-d}
+use Rattle.fit.specs.PartsLaws.{Written, whole-by, parts-by, parts-is}
+use Rattle.pin.specs.Pair.{rise, den}
+use Rattle.pin.specs.PairLaws.{den-positive}
 use Rattle.pin.specs.Search.{most-num, most-den}
-use Rattle.pin.specs.SearchLaws.{num-stored, den-stored, found}
+use Rattle.pin.specs.SearchLaws.{place-fits, rise-asked, offset-asked}
 use Rattle.pin.proofs.line_of.Statement.{statement}
 use Rattle.pin.proofs.line_of.Tie as tie
 
-abbrev start : tie.After-rise-of2 → tie.Start
-start c = c .before .before
+abbrev start : tie.After-offset-of2 → tie.Start
+start c = c .before .before .before .before
 
--- the two values
-abbrev ρ : tie.After-rise-of2 → List ℤ
-ρ c = c .before .rise-of .result ∷ c .rise-of2 .result ∷ []
+-- what the two points add to the slope and to the offset, the pair's fraction, and the unit
+abbrev ρ : tie.After-offset-of2 → List ℤ
+ρ c = c .before .before .before .rise-of .result ∷ c .before .before .rise-of2 .result ∷ c .before .offset-of .result ∷ c .offset-of2 .result ∷ start c .args .t .den ∷ start c .args .t .num ∷ pos (start c .args .d) ∷ []
 
 abbrev β : List ℕ
-β = 206000000 ∷ 206000000 ∷ []
+β = 206000000 ∷ 206000000 ∷ 6180000000000 ∷ 6180000000000 ∷ most-den ∷ most-num ∷ most-d ∷ []
 
-bounds : (c : tie.After-rise-of2) → Bounds (ρ c) β
-bounds c = (c .before .rise-of .ensures .1, (c .rise-of2 .ensures .1, tt))
+bounds : (c : tie.After-offset-of2) → Bounds (ρ c) β
+bounds c =
+    let t = start c .pre .1 in
+    (c .before .before .before .rise-of .ensures .1, (c .before .before .rise-of2 .ensures .1, (c .before .offset-of .ensures .1, (c .offset-of2 .ensures .1, (t .den-most, (t .num-most, (start c .pre .0 .admitted .unit, tt)))))))
 
--- their sum, as it lies in the machine
-sum : (c : tie.After-rise-of2) → stored (stored (c .before .rise-of .result) +ℤ stored (c .rise-of2 .result)) ≡ rise (points (start c .args .g)) (start c .args .p .v .count) (start c .args .t .i) +ℤ rise (points (start c .args .g)) (start c .args .p .v .count) (start c .args .t .j)
-sum c = ends (ρ c) β (bounds c) (var 0 ⊕ var 1) tt ∙ ap₂ _+ℤ_ (c .before .rise-of .ensures .0) (c .rise-of2 .ensures .0)
+abbrev four : Written
+four = record { a = var 0 ⊕ var 1; b = var 2 ⊕ var 3; q = var 4 ⊗ var 6; w = var 5 }
+
+abbrev P : tie.Start → Points
+P s = let a = s .args in lent (a .m) (a .d) (a .x .now) (a .low .now) (a .high .now)
+
+-- the offset, as the pair's line writes it
+offset : (P : Points) (x v : ℤ) (i j : ℕ) → (P .x i *ℤ v -ℤ x *ℤ P .low i) +ℤ (P .x j *ℤ v -ℤ x *ℤ P .low j) ≡ v *ℤ den P x i j -ℤ (rise P v i +ℤ rise P v j) *ℤ x
+offset P x v i j =
+    let y = var 0 in let z = var 1 in let k = var 2 in let l = var 3 in let u = var 4 in let w = var 5 in
+    ring (P .x i ∷ P .x j ∷ P .low i ∷ P .low j ∷ x ∷ v ∷ []) ((y ⊗ w ⊖ u ⊗ k) ⊕ (z ⊗ w ⊖ u ⊗ l)) (w ⊗ ((y ⊖ u) ⊕ (z ⊖ u)) ⊖ ((k ⊖ w) ⊕ (l ⊖ w)) ⊗ u) tt
 
 rise-of-requires : tie.Need-rise-of-requires
-rise-of-requires c κs = (c .pre .0, c .pre .1 .fits .i-fits)
+rise-of-requires c κs = let h = c .pre .1 .fits .i-fits in (place-fits (c .pre .0) h, rise-asked (c .pre .0) h)
 
 rise-of-requires-2 : tie.Need-rise-of-requires-2
-rise-of-requires-2 c κs = (c .before .pre .0, c .before .pre .1 .fits .j-fits)
+rise-of-requires-2 c κs = let s = c .before in let h = s .pre .1 .fits .j-fits in (place-fits (s .pre .0) h, rise-asked (s .pre .0) h)
 
-add-slanted : tie.Need-add-slanted
-add-slanted c = safe (ρ c) β (bounds c) (var 0 ⊕ var 1) tt
+offset-of-requires : tie.Need-offset-of-requires
+offset-of-requires c κs = let s = c .before .before in let h = s .pre .1 .fits .i-fits in (place-fits (s .pre .0) h, offset-asked (s .pre .0) h)
 
-slanted-requires : tie.Need-slanted-requires
-slanted-requires c κs =
-    let r = c .before .before in
-    let s = start r in
-    let ready = s .pre .0 in
-    let best = s .pre .1 in
-    let fraction = best .paired in
-    let a = ready .admitted in (
-      (
-        ready .x-most,
-        (
-          ready .v-most,
-          (
-            stays (ρ r) β (bounds r) (var 0 ⊕ var 1) 412000000 tt tt,
-            (subst (λ (z : ℤ). natAbs z ≤ most-den) (sym (den-stored fraction)) (fraction .den-most), (subst (λ (z : ℤ). natAbs z ≤ most-num) (sym (num-stored fraction)) (fraction .num-most), (a .unit, tt))),
-          ),
-        ),
-      ),
-      (
-        subst (λ (z : ℤ). pos 0 <ℤ z) (sym (den-stored fraction ∙ fraction .den-is)) (den-positive (best .fits)),
-        subst (λ (z : ℤ). pos 0 ≤ℤ z) (sym (num-stored fraction ∙ fraction .num-is)) (num-sign (a .proper) (found ready best)),
-        a .proper .unit,
-      ),
-    )
+offset-of-requires-2 : tie.Need-offset-of-requires-2
+offset-of-requires-2 c κs = let s = c .before .before .before in let h = s .pre .1 .fits .j-fits in (place-fits (s .pre .0) h, offset-asked (s .pre .0) h)
+
+add-told : tie.Need-add-told
+add-told c = safe (ρ c) β (bounds c) (four .a) tt
+
+add-told-2 : tie.Need-add-told-2
+add-told-2 c = safe (ρ c) β (bounds c) (four .b) tt
+
+cast-told : tie.Need-cast-told
+cast-told c = search needs
+
+mul-told : tie.Need-mul-told
+mul-told c = let r = c .before .before in safe (ρ r) β (bounds r) (four .q) tt
+
+told-requires : tie.Need-told-requires
+told-requires c κs =
+    let r = c .before .before .before in
+    let t = start r .pre .1 in
+    let e = t .den-is in
+    whole-by (ρ r) β (bounds r) four tt (positive-mul (subst (λ (z : ℤ). pos 0 <ℤ z) (sym e) (den-positive (t .fits))) (positive-nat (start r .pre .0 .admitted .proper .unit))) (t .sign)
 
 returns : tie.Need-returns
 returns c =
-    let r = c .before .before .before in
-    let s = start r in
-    let p = s .args .p in
-    let fraction = s .pre .1 .paired in
-    parts-is (sum r) (ap₂ (λ (e n : ℤ). p .v .count *ℤ e -ℤ n *ℤ p .x .count) (den-stored fraction) (sum r)) (ap (λ (e : ℤ). e *ℤ pos (s .args .g .d)) (den-stored fraction)) (num-stored fraction) (c .slanted .ensures)
+    let r = c .before .before .before .before in
+    let a = start r .args in
+    let p = a .p in
+    let t = start r .pre .1 in
+    parts-is
+    (ap₂ _+ℤ_ (r .before .before .before .rise-of .ensures .0) (r .before .before .rise-of2 .ensures .0))
+    (ap₂ _+ℤ_ (r .before .offset-of .ensures .0) (r .offset-of2 .ensures .0) ∙ offset (P (start r)) (p .x .count) (p .v .count) (a .t .i) (a .t .j) ∙ ap (λ (z : ℤ). p .v .count *ℤ z -ℤ (rise (P (start r)) (p .v .count) (a .t .i) +ℤ rise (P (start r)) (p .v .count) (a .t .j)) *ℤ p .x .count) (sym (t .den-is)))
+    refl refl
+    (parts-by (ρ r) β (bounds r) four tt (c .told .ensures))
 
 pub line-of-spec : {M : Type 1} → statement M
-line-of-spec = tie.close (tie.spec rise-of-requires rise-of-requires-2 add-slanted slanted-requires returns)
+line-of-spec =
+    tie.close
+    (tie.spec
+    rise-of-requires
+    rise-of-requires-2
+    offset-of-requires
+    offset-of-requires-2
+    add-told
+    add-told-2
+    cast-told
+    mul-told
+    told-requires
+    returns)

@@ -1,60 +1,51 @@
--- `pin::pair_of` meets its contract: the numbers of two inputs are of bounded size, and so is their fraction.
-use mathlib.Core.Path.{sym, ap₂, _∙_, subst}
-use mathlib.Core.List.{List, _∷_, []}
-use Prim.Native.Nat.{ℕ, _≤_}
+-- `pin::pair_of` meets its contract: the numbers of two inputs are of bounded size, and their fraction is that of the pair.
+use mathlib.Core.Path.{ap₂, _∙_}
 use borrow.Author.Needs.{needs, sfits-of}
-use lib.IntN.{ℤ, natAbs, _+ℤ_, _-ℤ_, _*ℤ_}
+use lib.IntN.{ℤ}
 use mir.Facts.{toZ-ofZ}
-use Rattle.whole.specs.Poly.{var, _⊕_, _⊖_, _⊗_}
-use Rattle.whole.specs.Machine.{Bounds, stored, sized}
-use Rattle.pin.specs.Search.{most-num, most-den}
+use Rattle.band.specs.Band.{lent}
+use Rattle.band.specs.Line.{Points}
+use Rattle.whole.specs.Machine.{stored}
+use Rattle.pin.specs.Pair.{rise}
+use Rattle.pin.specs.Search.{ordered}
+use Rattle.pin.specs.SearchLaws.{place-fits, ahead-asked, rise-asked, told-pair}
 use Rattle.pin.proofs.pair_of.Statement.{statement}
 use Rattle.pin.proofs.pair_of.Tie as tie
 
--- the two values and the two distances, as they lie in the machine
-abbrev ρ : tie.After-ahead-of2 → List ℤ
-ρ c = stored (c .before .before .before .rise-of .result) ∷ stored (c .before .before .rise-of2 .result) ∷ stored (c .before .ahead-of .result) ∷ stored (c .ahead-of2 .result) ∷ []
-
-abbrev β : List ℕ
-β = 206000000 ∷ 206000000 ∷ 60000 ∷ 60000 ∷ []
-
-bounds : (c : tie.After-ahead-of2) → Bounds (ρ c) β
-bounds c = search needs
+abbrev P : tie.Start → Points
+P s = lent (s .args .m) (s .args .d) (s .args .x .now) (s .args .low .now) (s .args .high .now)
 
 rise-of-requires : tie.Need-rise-of-requires
-rise-of-requires c κs = search needs
+rise-of-requires c κs = let h = c .pre .1 .i-fits in (place-fits (c .pre .0) h, rise-asked (c .pre .0) h)
 
 rise-of-requires-2 : tie.Need-rise-of-requires-2
-rise-of-requires-2 c κs = search needs
+rise-of-requires-2 c κs = let s = c .before in let h = s .pre .1 .j-fits in (place-fits (s .pre .0) h, rise-asked (s .pre .0) h)
 
 ahead-of-requires : tie.Need-ahead-of-requires
-ahead-of-requires c κs = search needs
+ahead-of-requires c κs = let s = c .before .before in let h = s .pre .1 .i-fits in (place-fits (s .pre .0) h, ahead-asked (s .pre .0) h)
 
 ahead-of-requires-2 : tie.Need-ahead-of-requires-2
-ahead-of-requires-2 c κs = search needs
+ahead-of-requires-2 c κs = let s = c .before .before .before in let h = s .pre .1 .j-fits in (place-fits (s .pre .0) h, ahead-asked (s .pre .0) h)
 
 paired-requires : tie.Need-paired-requires
-paired-requires c κs = bounds c
+paired-requires c κs = search needs
 
 returns : tie.Need-returns
 returns c =
-    let e = c .paired .ensures in
-    let t = c .before in
-    let s = t .before in
-    let b = s .before in
+    let n = c .before in
+    let k = n .before in
+    let b = k .before in
     let a = b .before in
+    let s = a .before in
+    let p = s .args .p in
     let a-is = toZ-ofZ (sfits-of (a .rise-of .ok)) ∙ a .rise-of .ensures .0 in
     let b-is = toZ-ofZ (sfits-of (b .rise-of2 .ok)) ∙ b .rise-of2 .ensures .0 in
-    let s-is = toZ-ofZ (sfits-of (s .ahead-of .ok)) ∙ s .ahead-of .ensures .0 in
-    let t-is = toZ-ofZ (sfits-of (t .ahead-of2 .ok)) ∙ t .ahead-of2 .ensures .0 in
-    record {
-      i-is = e .0;
-      j-is = e .1 .0;
-      num-is = e .1 .1 .0 ∙ ap₂ _-ℤ_ (ap₂ _*ℤ_ a-is t-is) (ap₂ _*ℤ_ b-is s-is);
-      den-is = e .1 .1 .1 ∙ ap₂ _+ℤ_ s-is t-is;
-      num-most = subst (λ (z : ℤ). natAbs z ≤ most-num) (sym (e .1 .1 .0)) (sized (ρ t) β (bounds t) (var 0 ⊗ var 3 ⊖ var 1 ⊗ var 2) most-num tt);
-      den-most = subst (λ (z : ℤ). natAbs z ≤ most-den) (sym (e .1 .1 .1)) (sized (ρ t) β (bounds t) (var 2 ⊕ var 3) most-den tt);
-    }
+    let k-is = toZ-ofZ (sfits-of (k .ahead-of .ok)) ∙ k .ahead-of .ensures .0 in
+    let n-is = toZ-ofZ (sfits-of (n .ahead-of2 .ok)) ∙ n .ahead-of2 .ensures .0 in
+    told-pair (s .pre .0) (s .pre .1)
+    (c .paired .ensures
+    ∙ ap₂ (λ (a b : ℤ). ordered (s .args .i) (s .args .j) a b (stored (k .ahead-of .result)) (stored (n .ahead-of2 .result))) a-is b-is
+    ∙ ap₂ (ordered (s .args .i) (s .args .j) (rise (P s) (p .v .count) (s .args .i)) (rise (P s) (p .v .count) (s .args .j))) k-is n-is)
 
 pub pair-of-spec : {M : Type 1} → statement M
 pair-of-spec = tie.close (tie.spec rise-of-requires rise-of-requires-2 ahead-of-requires ahead-of-requires-2 paired-requires returns)

@@ -2,6 +2,7 @@
 use mathlib.Core.Path.{_≡_, sym, ap, ap₂, _∙_, subst}
 use mathlib.Core.List.{List, _∷_, []}
 use Prim.Native.Nat.{ℕ}
+use borrow.Author.Needs.{needs}
 use lib.IntN.{ℤ, pos, _*ℤ_}
 use lib.Signed.{ltZ}
 use Rattle.whole.specs.Poly.{var, lit, _⊗_}
@@ -23,6 +24,9 @@ abbrev β : List ℕ
 bounds : (c : tie.After-own-distance) → Bounds (ρ c) β
 bounds c = let t = c .before .greatest .ensures .paired in (c .own-distance .ensures .most, (t .num-most, (t .den-most, tt)))
 
+abbrev start : tie.After-own-distance → tie.Start
+start c = c .before .before .before
+
 -- what was tested
 test : (c : tie.After-exceeds) → let o = c .before .before .before in let t = o .before .greatest .result in ltZ (t .num *ℤ pos 1) (o .own-distance .result *ℤ t .den) ≡ c .exceeds .result
 test c =
@@ -30,11 +34,14 @@ test c =
     let is = ends (ρ o) β (bounds o) in
     sym (c .exceeds .ensures ∙ ap₂ ltZ (ap (λ (z : ℤ). z *ℤ pos 1) (is (var 1) tt)) (ap₂ _*ℤ_ (is (var 0) tt) (is (var 2) tt)))
 
+start-of-requires : tie.Need-start-of-requires
+start-of-requires c κs = search needs
+
 greatest-requires : tie.Need-greatest-requires
-greatest-requires c κs = (c .pre .0, c .pre .2)
+greatest-requires c κs = (c .before .pre .0 .0, c .start-of .ensures)
 
 own-distance-requires : tie.Need-own-distance-requires
-own-distance-requires c κs = c .before .pre .0
+own-distance-requires c κs = let n = c .before in let h = n .before .pre .0 in ((h .0, n .start-of .ensures), h .1)
 
 exceeds-requires : tie.Need-exceeds-requires
 exceeds-requires c κs =
@@ -46,25 +53,25 @@ mul-only : tie.Need-mul-only
 mul-only c = let o = c .before .before .before .before in safe (ρ o) β (bounds o) (lit 2 ⊗ var 0) tt
 
 only-requires : tie.Need-only-requires
-only-requires c κs = let o = c .before .before .before .before in (stays (ρ o) β (bounds o) (lit 2 ⊗ var 0) most-e tt tt, o .before .before .pre .0 .admitted .unit)
+only-requires c κs = let o = c .before .before .before .before in (stays (ρ o) β (bounds o) (lit 2 ⊗ var 0) most-e tt tt, start o .pre .0 .0 .admitted .unit)
 
 returns : tie.Need-returns
 returns c =
     let e = c .before .before in
     let o = e .before .before .before in
-    let h = o .before .before .pre in
-    let d = o .before .before .args .g .d in
-    several-due (h .0) (h .1) (h .2) (o .before .greatest .ensures) (o .own-distance .ensures) (test e ∙ c .before .if1 .taken) (subst (λ (z : ℤ). WideParts z d (c .only .result)) (ends (ρ o) β (bounds o) (lit 2 ⊗ var 0) tt) (c .only .ensures))
+    let h = start o .pre in
+    let d = start o .args .d in
+    several-due (h .0 .0) (h .1) (h .0 .1) (o .before .greatest .ensures) (o .own-distance .ensures) (test e ∙ c .before .if1 .taken) (subst (λ (z : ℤ). WideParts z d (c .only .result)) (ends (ρ o) β (bounds o) (lit 2 ⊗ var 0) tt) (c .only .ensures))
 
 line-of-requires : tie.Need-line-of-requires
-line-of-requires c κs = let t = c .before .before .before .before .before in (t .before .pre .0, t .greatest .ensures)
+line-of-requires c κs = let t = c .before .before .before .before .before in (t .before .before .pre .0 .0, t .greatest .ensures .paired)
 
 returns-2 : tie.Need-returns-2
 returns-2 c =
     let e = c .before .before in
     let o = e .before .before .before in
-    let h = o .before .before .pre in
-    line-due (h .0) (h .1) (h .2) (o .before .greatest .ensures) (o .own-distance .ensures) (test e ∙ c .before .if1 .left) (c .line-of .ensures)
+    let h = start o .pre in
+    line-due (h .0 .0) (h .1) (h .0 .1) (o .before .greatest .ensures) (o .own-distance .ensures) (test e ∙ c .before .if1 .left) (c .line-of .ensures)
 
 pub pinned-spec : {M : Type 1} → statement M
-pinned-spec = tie.close (tie.spec greatest-requires own-distance-requires exceeds-requires mul-only only-requires returns line-of-requires returns-2)
+pinned-spec = tie.close (tie.spec start-of-requires greatest-requires own-distance-requires exceeds-requires mul-only only-requires returns line-of-requires returns-2)

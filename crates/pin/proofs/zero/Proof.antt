@@ -1,62 +1,51 @@
--- `pin::zero` meets its contract: the inputs rise, so none is negative where the first is not, and then none lies before the origin.
-use mathlib.Core.Path.{sym, _∙_, subst}
-use mathlib.Core.List.{List, _∷_, []}
-use Prim.Native.Nat.{_<_}
+-- `pin::zero` meets its contract: the inputs rise, so none is negative where the first is not.
+use mathlib.Core.Path.{_≡_, sym, ap, _∙_}
 use native.Mathlib.Omega.{arith}
 use borrow.Author.Needs.{needs}
 use borrow.Author.Tests.{not-true, not-false}
-use lib.IntN.{ℤ, pos}
-use lib.Signed.{_≤ℤ_, clashℤ}
-use Rattle.whole.specs.Poly.{var, lit}
-use Rattle.whole.specs.Machine.{Bounds, if-lt, if-ge}
+use lib.IntN.{pos}
+use lib.Signed.{ltZ, ltZ-yes, ltZ-no, clashℤ}
+use Rattle.whole.specs.Flags.{yes-T, no-T}
 use Rattle.units.specs.declared.Input.{Input}
-use Rattle.band.specs.Band.{points, most-x, Admitted, Level}
+use Rattle.band.specs.Line.{Points, OneValue}
+use Rattle.band.specs.Band.{lent, Admitted}
 use Rattle.band.specs.AdmitLaws.{drawn-yes, drawn-no}
-use Rattle.search.specs.SearchSize.{input-size}
-use Rattle.pin.specs.Answer.{NoNegative}
 use Rattle.pin.specs.PairLaws.{beyond-first}
-use Rattle.pin.specs.Due.{zero-due}
 use Rattle.pin.proofs.zero.Statement.{statement}
 use Rattle.pin.proofs.zero.Tie as tie
 
-drawn : (c : tie.Else1) → Admitted (c .before .before .args .g) × Level (c .before .before .args .g)
-drawn c = drawn-yes (c .before .before .args .g) (sym (c .before .is-drawn .ensures) ∙ not-false (c .before .is-drawn .result) (c .if1 .left))
+abbrev P : tie.Start → Points
+P s = let a = s .args in lent (a .m) (a .d) (a .x .now) (a .low .now) (a .high .now)
 
-any : (c : tie.Else1) → 0 < c .before .before .args .g .m
-any c = omega (arith, drawn c .0 .three)
+drawn : (c : tie.Else1) → let Q = P (c .before .before) in Admitted Q × OneValue Q
+drawn c = let t = c .before in drawn-yes (P (t .before)) (sym (t .is-drawn .ensures) ∙ not-false (t .is-drawn .result) (c .if1 .left))
 
--- the first input
-abbrev ρ : tie.After-input-at → List ℤ
-ρ c = c .input-at .result .count ∷ []
-
-bounds : (c : tie.After-input-at) → Bounds (ρ c) (most-x ∷ [])
-bounds c = (input-size (drawn (c .before) .0) (any (c .before)) (c .input-at .ensures), tt)
-
-none-negative : (c : tie.Else2) → NoNegative (points (c .before .before .before .before .before .before .args .g))
-none-negative c =
-    let i = c .before .before .before in
-    let h : pos 0 ≤ℤ i .input-at .result .count = if-ge (ρ i) (most-x ∷ []) (bounds i) (var 0) (lit 0) tt tt (c .if2 .left) in
-    beyond-first (drawn (i .before) .0 .proper) (subst (λ (v : Input). pos 0 ≤ℤ v .count) (i .input-at .ensures) h)
+-- the first input was held against 0
+test : (c : tie.After-is-below) → ltZ (P (c .before .before .before .before) .x 0) (pos 0) ≡ c .is-below .result
+test c = sym (c .is-below .ensures ∙ ap (λ (u : Input). ltZ (u .count) (pos 0)) (c .before .input-at .ensures))
 
 is-drawn-requires : tie.Need-is-drawn-requires
 is-drawn-requires c κs = search needs
 
 returns : tie.Need-returns
-returns c = λ a level h. drawn-no (c .before .before .args .g) (sym (c .before .is-drawn .ensures) ∙ not-true (c .before .is-drawn .result) (c .if1 .taken)) a level
+returns c = let t = c .before in λ a level h. drawn-no (P (t .before)) (sym (t .is-drawn .ensures) ∙ not-true (t .is-drawn .result) (c .if1 .taken)) a level
 
 input-at-requires : tie.Need-input-at-requires
 input-at-requires c κs = search needs
 
-returns-2 : tie.Need-returns-2
-returns-2 c = λ a level h.
-    let i = c .before .before .before in
-    clashℤ (if-lt (ρ i) (most-x ∷ []) (bounds i) (var 0) (lit 0) tt tt (c .if2 .taken)) (subst (λ (v : Input). pos 0 ≤ℤ v .count) (sym (i .input-at .ensures)) (h 0 (any (i .before))))
+is-below-requires : tie.Need-is-below-requires
+is-below-requires c κs = search needs
 
-pinned-requires : tie.Need-pinned-requires
-pinned-requires c κs = let d = drawn (c .before .before .before .before) in (record { admitted = d .0; x-most = omega arith; v-most = omega arith }, d .1, none-negative c)
+returns-2 : tie.Need-returns-2
+returns-2 c = λ a level h. clashℤ (ltZ-yes (yes-T (test (c .before) ∙ c .if2 .taken))) (h 0 (omega (arith, a .three)))
+
+zero-of-requires : tie.Need-zero-of-requires
+zero-of-requires c κs =
+    let d = drawn (c .before .before .before) in
+    (d .0, d .1, beyond-first (d .0 .proper) (ltZ-no (no-T (test (c .before) ∙ c .if2 .left))))
 
 returns-3 : tie.Need-returns-3
-returns-3 c = let d = drawn (c .before .before .before .before .before) in zero-due (d .0) (d .1) (none-negative (c .before)) (c .pinned .result) (c .pinned .ensures)
+returns-3 c = c .zero-of .ensures
 
 pub zero-spec : {M : Type 1} → statement M
-zero-spec = tie.close (tie.spec is-drawn-requires returns input-at-requires returns-2 pinned-requires returns-3)
+zero-spec = tie.close (tie.spec is-drawn-requires returns input-at-requires is-below-requires returns-2 zero-of-requires returns-3)

@@ -1,54 +1,42 @@
--- `search::greatest` meets its contract: before each turn the best of the candidates so far.
-use mathlib.Core.Path.{_≡_, subst}
-use Prim.Native.Nat.{ℕ, _-_, _≤_}
-use native.Mathlib.Omega.{arith}
+-- `search::greatest` meets its contract: what the loops hold in the end is told as a candidate, and its fraction lies in the struct as itself.
+use mathlib.Core.Path.{sym, ap, _∙_, subst}
 use borrow.Author.Needs.{needs}
-use lib.Dec.{lt→ltb}
-use Rattle.search.specs.Search.{BestOf}
-use Rattle.search.specs.SearchStep.{best-start}
+use Rattle.whole.specs.Machine.{stored-is}
+use Rattle.band.specs.Line.{Points}
+use Rattle.band.specs.Candidate.{num, den, Fits}
+use Rattle.band.specs.Band.{lent}
+use Rattle.search.specs.Search.{shown, Below}
+use Rattle.search.specs.SearchSize.{top-size}
+use Rattle.search.specs.declared.Candidate.{Candidate}
 use Rattle.search.proofs.greatest.Statement.{statement}
 use Rattle.search.proofs.greatest.Tie as tie
 
-abbrev Inv-loop : tie.InvT-loop
-Inv-loop g top₀ k₀ top k = BestOf g k top × (k ≤ 2673)
+over-all-requires : tie.Need-over-all-requires
+over-all-requires c κs = search needs
 
-abbrev μ-loop : tie.MeasureT-loop
-μ-loop g top₀ k₀ top k = 2673 - k
+candidate-of-requires : tie.Need-candidate-of-requires
+candidate-of-requires c κs = search needs
 
-levelled-requires : tie.Need-levelled-requires Inv-loop μ-loop
-levelled-requires c κs = (c .pre, lt→ltb 0 (c .args .g .m) (omega (arith, c .pre .three)))
+abbrev points : tie.Start → Points
+points s = let a = s .args in lent (a .m) (a .d) (a .x .now) (a .low .now) (a .high .now)
 
-loop-holds : tie.Need-loop-holds Inv-loop μ-loop
-loop-holds c = (best-start (c .levelled .ensures .1), omega arith)
-
-consider-requires : tie.Need-consider-requires Inv-loop μ-loop
-consider-requires c κs = (c .before .before .before .pre, c .before .loop .inv .0)
-
-add-k : tie.Need-add-k Inv-loop μ-loop
-add-k c = search needs
-
-loop-less : tie.Need-loop-less Inv-loop μ-loop
-loop-less c = search needs
-
-loop-again : tie.Need-loop-again Inv-loop μ-loop
-loop-again c = (c .consider .ensures, omega (arith, c .before .loop-test .taken))
-
-returns : tie.Need-returns Inv-loop μ-loop
+returns : tie.Need-returns
 returns c =
-    let l = c .before .loop in
-    let e : l .k ≡ 2673 = omega (arith, l .inv .1, c .loop-test .left) in
-    subst (λ (n : ℕ). BestOf (c .before .before .before .args .g) n (l .top)) e (l .inv .0)
+    let o = c .before .before in
+    let P = points (o .before) in
+    let t = o .over-all .result in
+    let b = o .over-all .ensures in
+    let l = b .holds .levelled in
+    let z = top-size (o .before .pre) l in
+    let e = sym (c .before .candidate-of .ensures) in
+    record {
+      levelled = record {
+        fits = subst (λ (c : Candidate). Fits P (shown c)) e (l .fits);
+        num = stored-is (t .num) 18540000000000 (z .0) tt ∙ l .num ∙ ap (λ (c : Candidate). num P (shown c)) e;
+        den = stored-is (t .den) 60000 (z .1) tt ∙ l .den ∙ ap (λ (c : Candidate). den P (shown c)) e;
+      };
+      all = λ d h. subst (Below P d) e (b .all d h);
+    }
 
 pub greatest-spec : {M : Type 1} → statement M
-greatest-spec =
-    tie.close
-    (tie.spec
-    Inv-loop
-    μ-loop
-    levelled-requires
-    loop-holds
-    consider-requires
-    add-k
-    loop-less
-    loop-again
-    returns)
+greatest-spec = tie.close (tie.spec over-all-requires candidate-of-requires returns)

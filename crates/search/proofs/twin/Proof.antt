@@ -8,16 +8,16 @@ use borrow.Author.Needs.{needs}
 use lib.Dec.{T}
 use Rattle.whole.specs.Flags.{yes-T, T-yes}
 use Rattle.whole.specs.Flags as F
-use Rattle.band.specs.Band.{points}
+use Rattle.band.specs.Band.{lent}
 use Rattle.search.specs.Twin.{apart}
 use Rattle.search.proofs.twin.Statement.{statement}
 use Rattle.search.proofs.twin.Tie as tie
 
 abbrev Inv-loop : tie.InvT-loop
-Inv-loop g i m j₀ j = (j ≤ m) × ((k : ℕ) → k < j → T (apart (points g) i k))
+Inv-loop m d x low high i j₀ j = (j ≤ m) × ((k : ℕ) → k < j → T (apart (lent m d x low high) i k))
 
 abbrev μ-loop : tie.MeasureT-loop
-μ-loop g i m j₀ j = m - j
+μ-loop m d x low high i j₀ j = m - j
 
 loop-holds : tie.Need-loop-holds Inv-loop μ-loop
 loop-holds c = (search needs, λ k h. let z : ⊥ = omega arith in absurd z)
