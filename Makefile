@@ -18,7 +18,7 @@ test:
 heard:
 	@python3 tests/heard.py
 
-# Times the functions and the program beside a hand-written C program for the same sheets; needs cc and an x86-64 machine, which nothing else here does.
+# Times the functions and the program beside a hand-written C program for the same sheets; needs cc, objcopy and an x86-64 machine, which nothing else here does.
 speed:
 	@python3 speed/speed.py
 

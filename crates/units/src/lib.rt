@@ -1,4 +1,4 @@
-// The numbers of the bench, kept apart by their types (the paper, "Input units, reading units and sum units"). They are worked with here and nowhere else: a stranger can
+// The numbers of the bench, kept apart by their types (the paper, "Input units, reading units and sum units"). They are worked with here and, but for one product in `indices`, nowhere else: a stranger can
 // see that no number of one kind is ever added to one of another. Outside, a difference is a whole number whose name says what it counts.
 ghost use mathlib.Core.List.{_∷_, []};
 ghost use mathlib.Core.Path.{_≡_};
