@@ -1,8 +1,8 @@
 // The averages and the indices of a run, put on a page.
 use crate::files::put_pair;
+use due::Answer;
+use due::Index;
 use exact::Fraction;
-use indices::Answer;
-use indices::Index;
 use run::Run;
 use trial::Page;
 

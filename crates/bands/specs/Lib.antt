@@ -2,3 +2,5 @@ pub mod Through
 pub mod Parts
 pub mod BandLaws
 pub mod Lent
+pub mod Transfer
+pub mod Admitted

@@ -1,26 +1,24 @@
 -- What the kinds of lines and of widths stand for. Method.
 use mathlib.Core.Path.{_≡_}
-use Prim.Native.Nat.{ℕ, _<_, _≤_}
+use Prim.Native.Nat.{ℕ, _<_}
 use Rattle.run.specs.declared.Run.{Run}
 use Rattle.groups.specs.Sums.{limit}
 use Rattle.band.specs.Line.{Points}
 use Rattle.bands.specs.Through.{means, strokes, limit-points, swing, scatter}
-use Rattle.bands.specs.declared.Through.{Through}
-use Rattle.bands.specs.declared.Through.the-variants as lines
 use Rattle.bands.specs.declared.Width.{Width}
 use Rattle.bands.specs.declared.Width.the-variants as widths
 
--- the points that a band is made of
-abbrev pub through : Through → Run → Points
-through lines.Means r = means r
-through lines.Strokes r = strokes r
-through lines.Limits r = limit-points r (limit r)
+-- T; U and D; U less its limit and D more its limit
+pub data Through : Type 0 where
+  Means : Through
+  Strokes : Through
+  Limits : Through
 
--- a limit needs two cycles
-abbrev pub Cycles : Through → Run → Type 0
-Cycles lines.Means r = Unit {0}
-Cycles lines.Strokes r = Unit {0}
-Cycles lines.Limits r = 2 ≤ r .n
+-- the points of a run that lines go through
+abbrev pub through : Through → Run → Points
+through Means r = means r
+through Strokes r = strokes r
+through Limits r = limit-points r (limit r)
 
 -- two sets of points have the same inputs and values
 pub record SamePoints (P R : Points) : Type 0 where

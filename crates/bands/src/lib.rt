@@ -15,13 +15,6 @@ use units::Part;
 use units::Sum;
 use units::sum_at;
 
-// T; U and D; U less its limit and D more its limit.
-pub enum Through {
-    Means,
-    Strokes,
-    Limits,
-}
-
 // What is largest over the points: D from U, or a limit.
 pub enum Width {
     Swing,

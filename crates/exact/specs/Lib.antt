@@ -5,4 +5,5 @@ pub mod RoundingLaws
 pub mod Euclid
 pub mod Terms
 pub mod Once
+pub mod Exists
 pub mod Vectors

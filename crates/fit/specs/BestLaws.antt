@@ -18,7 +18,7 @@ use Rattle.band.specs.Middle.{several}
 use Rattle.band.specs.Least.{least}
 use Rattle.band.specs.Band.{most-x, Admitted}
 use Rattle.fit.specs.Answer.{TheLine, OnlyWidth}
-use Rattle.fit.specs.Parts.{Chosen, OverHigh, OverLow, PairParts, WideParts}
+use Rattle.fit.specs.Parts.{FitParts, Chosen, OverHigh, OverLow, PairParts, WideParts}
 use Rattle.fit.specs.Scaled.{Alike, unit-most, alike-written, least-alike, several-alike, the-line}
 use Rattle.search.specs.Search.{shown}
 use Rattle.search.specs.Over as O
@@ -42,7 +42,7 @@ pub near : {P : Points} → Admitted P → Near P
 near {P} a i k h j = size-sub (P .x k) (P .x i) most-x most-x (a .inputs k j) (a .inputs i h)
 
 module _ {P : Points} (proper : Proper P) (close : Near P) {f : Fit} where
-  pub up-best : (i j k : ℕ) → Greatest P (up i j k) → (n : ℤ) → n ≡ num P (up i j k) → OverHigh P i k n f → TheLine All P f
+  pub up-best : (i j k : ℕ) → Greatest P (up i j k) → (n : ℤ) → n ≡ num P (up i j k) → OverHigh P i k n (FitParts f) → TheLine All P f
   up-best i j k g n e p =
       let some = part-some proper (up i j k) (g .fits) in
       let q = told-part (P .x k -ℤ P .x i) (f .q) (P .d) (p .q-is) in
@@ -50,7 +50,7 @@ module _ {P : Points} (proper : Proper P) (close : Near P) {f : Fit} where
       the-line (p .told) (up-line P i j k some) tt (same-written (sym (p .a-is)) (sym (p .b-is ∙ ap (λ (t : ℤ). c -ℤ t) e)) (sym q)) (up-within proper i j k g some) (least proper (up i j k) g) (up-single proper i j k g)
       (alike-written some (ap natAbs (sym (p .w-is ∙ e))) (sym q)) (unit-most (f .q) (natAbs (P .x k -ℤ P .x i)) (P .d) q (close i k (omega (arith, g .fits .0, g .fits .1, g .fits .2)) (g .fits .2)))
 
-  pub down-best : (i j k : ℕ) → Greatest P (down i j k) → (n : ℤ) → n ≡ num P (down i j k) → OverLow P i k n f → TheLine All P f
+  pub down-best : (i j k : ℕ) → Greatest P (down i j k) → (n : ℤ) → n ≡ num P (down i j k) → OverLow P i k n (FitParts f) → TheLine All P f
   down-best i j k g n e p =
       let some = part-some proper (down i j k) (g .fits) in
       let q = told-part (P .x k -ℤ P .x i) (f .q) (P .d) (p .q-is) in
@@ -59,7 +59,7 @@ module _ {P : Points} (proper : Proper P) (close : Near P) {f : Fit} where
       the-line (p .told) (down-line P i j k some) tt (same-written (sym (p .a-is)) (sym (p .b-is ∙ b)) (sym q)) (down-within proper i j k g some) (least proper (down i j k) g) (down-single proper i j k g)
       (alike-written some (ap natAbs (sym (p .w-is ∙ e))) (sym q)) (unit-most (f .q) (natAbs (P .x k -ℤ P .x i)) (P .d) q (close i k (omega (arith, g .fits .0, g .fits .1, g .fits .2)) (g .fits .2)))
 
-  pub pair-best : (i j : ℕ) → i < j → j < P .m → Greatest P (one i) → num P (one j) ≡ num P (one i) → PairParts P i j f → TheLine All P f
+  pub pair-best : (i j : ℕ) → i < j → j < P .m → Greatest P (one i) → num P (one j) ≡ num P (one i) → PairParts P i j (FitParts f) → TheLine All P f
   pair-best i j ij jm g same p =
       let some = pair-some proper i j ij jm in
       let q = told-part (P .x j -ℤ P .x i) (f .q) (P .d) (p .q-is) in

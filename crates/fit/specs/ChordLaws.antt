@@ -10,10 +10,10 @@ use Rattle.whole.specs.Sign.{Positive, lt-sign}
 use Rattle.band.specs.Line.{Points}
 use Rattle.band.specs.Band.{most-x, most-v, most-d, Admitted}
 use Rattle.fit.specs.Ends.{most-a, most-b, most-gap, most-e, Through}
-use Rattle.fit.specs.Parts.{FitParts, Over, Chosen}
+use Rattle.fit.specs.Parts.{CourseParts, Over, Chosen}
 use Rattle.fit.specs.PartsLaws.{parts-is}
 use Rattle.fit.specs.declared.Ends.{Ends}
-use Rattle.fit.specs.declared.Fit.{Fit}
+use Rattle.fit.specs.declared.Course.{Course}
 
 module _ {P : Points} (a : Admitted P) {i k : ℕ} (h : i < k) (l : k < P .m) where
   first : i < P .m
@@ -34,5 +34,5 @@ module _ {P : Points} {i k : ℕ} {n : ℤ} (h : Chosen P i k n) {u v : ℤ} {e 
       let b = h .admitted in
       ((t .a-most, (t .b-most, (t .s-most, (subst (λ (z : ℤ). natAbs z ≤ most-e) (sym es) m, (subst (λ (z : ℤ). natAbs z ≤ most-e) (sym ew) (h .size), (b .unit, tt)))))), record { rise = gap-some b (h .order) (h .fits) t; sign = subst (λ (z : ℤ). pos 0 ≤ℤ z) (sym ew) (h .sign); unit = b .proper .unit })
 
-  pub chord-tells : {f : Fit} → FitParts (pos 2 *ℤ e .a) (pos 2 *ℤ e .b -ℤ s) (pos 2 *ℤ e .s *ℤ pos (P .d)) w f → FitParts (pos 2 *ℤ (v -ℤ u)) (pos 2 *ℤ (P .x k *ℤ u -ℤ P .x i *ℤ v) -ℤ s′) (pos 2 *ℤ (P .x k -ℤ P .x i) *ℤ pos (P .d)) n f
+  pub chord-tells : {c : Course} → CourseParts c (pos 2 *ℤ e .a) (pos 2 *ℤ e .b -ℤ s) (pos 2 *ℤ e .s *ℤ pos (P .d)) w → CourseParts c (pos 2 *ℤ (v -ℤ u)) (pos 2 *ℤ (P .x k *ℤ u -ℤ P .x i *ℤ v) -ℤ s′) (pos 2 *ℤ (P .x k -ℤ P .x i) *ℤ pos (P .d)) n
   chord-tells p = parts-is (ap (λ (z : ℤ). pos 2 *ℤ z) (t .a-is)) (ap₂ (λ (b z : ℤ). pos 2 *ℤ b -ℤ z) (t .b-is) es) (ap (λ (z : ℤ). pos 2 *ℤ z *ℤ pos (P .d)) (t .s-is)) ew p

@@ -25,7 +25,7 @@ use Rattle.fit.specs.declared.Spread.{Spread}
 use Rattle.fit.specs.declared.Fit.{Fit}
 
 module _ {P : Points} {e : Ends} {r : Spread} (a : Admitted P) (level : OneValue P) (t : EndsOf P e) (R : Ranged P e (P .m) r) (ready : Ready e r (P .d)) where
-  pub terminal-due : {f : Fit} → FitParts (e .a) (e .b) (e .s *ℤ pos (P .d)) (greater (r .hi) (pos 0 -ℤ r .lo)) f → TheTerminal P f
+  pub terminal-due : {f : Fit} → FitParts f (e .a) (e .b) (e .s *ℤ pos (P .d)) (greater (r .hi) (pos 0 -ℤ r .lo)) → TheTerminal P f
   terminal-due {f} p =
       let L = line-of f (p .told .some) in
       let h : Has P e L = record { a-is = p .a-is; b-is = p .b-is; q-is = p .q-is } in
@@ -49,7 +49,7 @@ module _ {P : Points} {e : Ends} {r : Spread} (a : Admitted P) (level : OneValue
   range : Range P base (pos (P .d) *ℤ r .lo) (pos (P .d) *ℤ r .hi)
   range = has-range P e base has level R
 
-  module _ {f : Fit} (p : FitParts (pos 2 *ℤ e .a) (pos 2 *ℤ e .b +ℤ (r .lo +ℤ r .hi)) (pos 2 *ℤ e .s *ℤ pos (P .d)) (r .hi -ℤ r .lo) f) where
+  module _ {f : Fit} (p : FitParts f (pos 2 *ℤ e .a) (pos 2 *ℤ e .b +ℤ (r .lo +ℤ r .hi)) (pos 2 *ℤ e .s *ℤ pos (P .d)) (r .hi -ℤ r .lo)) where
     abbrev L : Line
     L = line-of f (p .told .some)
 

@@ -8,4 +8,5 @@ pub mod EndsLine
 pub mod Once
 pub mod Parts
 pub mod PartsLaws
+pub mod Plot
 pub mod Scaled

@@ -1,16 +1,21 @@
 -- Whole numbers that are made from numbers of bounded size may be told, and what is told of the stored ones is told of the numbers.
-use mathlib.Core.Path.{_≡_, sym, _∙_, subst}
+use mathlib.Core.Path.{_≡_, sym, ap, _∙_, subst}
 use mathlib.Core.Bool.{Bool, _&&_}
 use mathlib.Core.List.{List}
-use Prim.Native.Nat.{ℕ, _≤_}
+use Prim.Native.Nat.{ℕ, _<_, _≤_}
 use lib.Dec.{T, leb}
 use lib.IntN.{ℤ, pos, natAbs}
 use lib.Signed.{_≤ℤ_, _<ℤ_}
 use mir.Facts.{and-yes}
 use Rattle.whole.specs.Poly.{E, val}
+use Rattle.whole.specs.Sign.{nat-positive}
 use Rattle.whole.specs.Machine.{Bounds, stored, raw, bound, ok, ends, stays}
-use Rattle.fit.specs.Parts.{Whole, FitParts}
+use Rattle.fit.specs.Parts.{Whole, CourseParts, FitParts, ReachParts, WideParts}
+use Rattle.fit.specs.Plot.{Tells, TellsWidth}
+use Rattle.fit.specs.declared.Course.{Course}
+use Rattle.fit.specs.declared.Reach.{Reach}
 use Rattle.fit.specs.declared.Fit.{Fit}
+use Rattle.fit.specs.declared.Wide.{Wide}
 
 -- the numbers as expressions
 pub record Written : Type 0 where
@@ -25,6 +30,23 @@ within β e n = ok β e && leb (bound β e) n
 -- no operation leaves the machine's range, and none of the four is larger than `Whole` allows
 abbrev pub tellable : List ℕ → Written → Bool
 tellable β e = (within β (e .a) 412000000 && within β (e .b) 50000000000000) && (within β (e .q) 24000000 && within β (e .w) 40000000000000)
+
+-- the same numbers, written otherwise
+pub parts-is : {a b q w a′ b′ q′ w′ : ℤ} {c : Course} → a ≡ a′ → b ≡ b′ → q ≡ q′ → w ≡ w′ → CourseParts c a b q w → CourseParts c a′ b′ q′ w′
+parts-is ea eb eq ew p = record {
+  whole = record {
+    positive = subst (λ (z : ℤ). pos 0 <ℤ z) eq (p .whole .positive);
+    sign = subst (λ (z : ℤ). pos 0 ≤ℤ z) ew (p .whole .sign);
+    a-most = subst (λ (z : ℤ). natAbs z ≤ 412000000) ea (p .whole .a-most);
+    b-most = subst (λ (z : ℤ). natAbs z ≤ 50000000000000) eb (p .whole .b-most);
+    w-most = subst (λ (z : ℤ). natAbs z ≤ 40000000000000) ew (p .whole .w-most);
+    q-most = subst (λ (z : ℤ). natAbs z ≤ 24000000) eq (p .whole .q-most);
+  };
+  a-is = p .a-is ∙ ea;
+  b-is = p .b-is ∙ eb;
+  q-is = p .q-is ∙ eq;
+  w-is = p .w-is ∙ ew;
+}
 
 module _ (ρ : List ℤ) (β : List ℕ) (hs : Bounds ρ β) (e : Written) (t : T (tellable β e)) where
   abbrev kept : E → ℤ
@@ -52,15 +74,34 @@ module _ (ρ : List ℤ) (β : List ℕ) (hs : Bounds ρ β) (e : Written) (t : 
     q-most = most (e .q) 24000000 (right .0);
   }
 
-  pub parts-by : {f : Fit} → FitParts (stored (raw ρ (e .a))) (stored (raw ρ (e .b))) (stored (raw ρ (e .q))) (stored (raw ρ (e .w))) f → FitParts (val ρ (e .a)) (val ρ (e .b)) (val ρ (e .q)) (val ρ (e .w)) f
-  parts-by p = record {
-    told = p .told;
-    a-is = p .a-is ∙ is (e .a) 412000000 (left .0);
-    b-is = p .b-is ∙ is (e .b) 50000000000000 (left .1);
-    q-is = p .q-is ∙ is (e .q) 24000000 (right .0);
-    w-is = p .w-is ∙ is (e .w) 40000000000000 (right .1);
-  }
+  pub parts-by : {c : Course} → CourseParts c (stored (raw ρ (e .a))) (stored (raw ρ (e .b))) (stored (raw ρ (e .q))) (stored (raw ρ (e .w))) → CourseParts c (val ρ (e .a)) (val ρ (e .b)) (val ρ (e .q)) (val ρ (e .w))
+  parts-by = parts-is (is (e .a) 412000000 (left .0)) (is (e .b) 50000000000000 (left .1)) (is (e .q) 24000000 (right .0)) (is (e .w) 40000000000000 (right .1))
 
--- the same numbers, written otherwise
-pub parts-is : {a b q w a′ b′ q′ w′ : ℤ} {f : Fit} → a ≡ a′ → b ≡ b′ → q ≡ q′ → w ≡ w′ → FitParts a b q w f → FitParts a′ b′ q′ w′ f
-parts-is ea eb eq ew p = record { told = p .told; a-is = p .a-is ∙ ea; b-is = p .b-is ∙ eb; q-is = p .q-is ∙ eq; w-is = p .w-is ∙ ew }
+-- ---- with the fractions
+pub tells-parts : {a b q w : ℤ} {c : Course} {f : Fit} → CourseParts c a b q w → Tells c f → FitParts f a b q w
+tells-parts {a} {b} {q} {w} p t =
+    let a-is = t .a-is ∙ p .a-is in
+    let b-is = t .b-is ∙ p .b-is in
+    let q-is = ap pos (t .q-is) ∙ p .q-is in
+    let w-is = t .w-is ∙ p .w-is in
+    let n = ap natAbs q-is in
+    record {
+      told = record {
+        some = subst (λ (k : ℕ). 0 < k) (sym n) (nat-positive (p .whole .positive));
+        sign = subst (λ (z : ℤ). pos 0 ≤ℤ z) (sym w-is) (p .whole .sign);
+        width = t .width;
+        slope = t .slope;
+        offset = t .offset;
+        a-most = subst (λ (z : ℤ). natAbs z ≤ 412000000) (sym a-is) (p .whole .a-most);
+        b-most = subst (λ (z : ℤ). natAbs z ≤ 50000000000000) (sym b-is) (p .whole .b-most);
+        w-most = subst (λ (z : ℤ). natAbs z ≤ 40000000000000) (sym w-is) (p .whole .w-most);
+        q-most = subst (λ (k : ℕ). k ≤ 24000000) (sym n) (p .whole .q-most);
+      };
+      a-is = a-is;
+      b-is = b-is;
+      q-is = q-is;
+      w-is = w-is;
+    }
+
+pub tells-wide : {w : ℤ} {d : ℕ} {h : Reach} {k : Wide} → ReachParts w d h → TellsWidth h k → WideParts w d k
+tells-wide p t = record { w-is = t .w-is ∙ p .w-is; q-is = t .q-is ∙ p .q-is; width = t .width }

@@ -10,7 +10,8 @@ ghost use Rattle.band.specs.Line.{OneValue};
 ghost use Rattle.band.specs.Band.{lent, most-x, most-v, most-d, Admitted};
 ghost use Rattle.search.specs.Over.{Greatest};
 ghost use Rattle.fit.specs.Answer.{BestDue, TheTerminal, TerminalDue, TheShifted, ShiftedDue};
-ghost use Rattle.fit.specs.Parts.{Whole, FitParts, Over, Chosen, OverHigh, OverLow, PairParts, WideParts};
+ghost use Rattle.fit.specs.Plot.{Tells, TellsWidth, Completes, CourseDue, PlotDue};
+ghost use Rattle.fit.specs.Parts.{Whole, CourseParts, Over, Chosen, OverHigh, OverLow, PairParts, ReachParts};
 ghost use Rattle.fit.specs.Ends.{most-a, most-b, most-gap, most-e, Through, EndsOf, Wider, Ranged, Ready};
 use exact::Fraction;
 use search::Candidate;
@@ -21,7 +22,27 @@ use units::part_at;
 use units::rise;
 use units::times;
 
-// The line (a·x + b)/q and its width w/q, as whole numbers over one denominator, and the three as fractions in lowest terms. The index of a line is made of w and a.
+// The line (a·x + b)/q and its width w/q, as whole numbers over one denominator. The index of a line is made of w and a.
+pub struct Course {
+    pub a: i64,
+    pub b: i64,
+    pub q: u64,
+    pub w: i64,
+}
+
+// The width w/q alone.
+pub struct Reach {
+    pub w: i64,
+    pub q: u64,
+}
+
+// What is found: a line; or only its width, where several lines reach it.
+pub enum Plotted {
+    Line(Course),
+    Several(Reach),
+}
+
+// A line and its width, with the three fractions in lowest terms.
 pub struct Fit {
     pub a: i64,
     pub b: i64,
@@ -32,14 +53,14 @@ pub struct Fit {
     pub offset: Fraction,
 }
 
-// The width w/q alone.
+// The width alone, with its fraction.
 pub struct Wide {
     pub w: i64,
     pub q: u64,
     pub width: Fraction,
 }
 
-// A line; or only its width, where several lines reach it; or nothing, where the points are not admitted.
+// A line; or only its width; or nothing, where the points are not admitted.
 pub enum Drawn {
     Line(Fit),
     Several(Wide),
@@ -59,20 +80,50 @@ struct Spread {
     hi: i64,
 }
 
-// Whole numbers over a positive denominator, with their fractions.
-pub fn told(a: i64, b: i64, q: i64, w: i64) -> Fit
+// Whole numbers over a positive denominator.
+pub fn lay(a: i64, b: i64, q: i64, w: i64) -> Course
     requires { ⌜ Whole a b q w ⌝ }
-    ensures { λ f. ⌜ FitParts a b q w f ⌝ }
+    ensures { λ c. ⌜ CourseParts c a b q w ⌝ }
 {
-    let n = q as u64;
-    Fit {
+    Course {
         a,
         b,
-        q: n,
+        q: q as u64,
         w,
-        width: exact::lowest(w, n),
-        slope: exact::lowest(a, n),
-        offset: exact::lowest(b, n),
+    }
+}
+
+// ---- Fractions are made last, and only where they are asked for.
+fn told(c: Course) -> Fit
+    ensures { λ f. ⌜ Tells c f ⌝ }
+{
+    Fit {
+        a: c.a,
+        b: c.b,
+        q: c.q,
+        w: c.w,
+        width: exact::lowest(c.w, c.q),
+        slope: exact::lowest(c.a, c.q),
+        offset: exact::lowest(c.b, c.q),
+    }
+}
+
+fn told_width(h: Reach) -> Wide
+    ensures { λ k. ⌜ TellsWidth h k ⌝ }
+{
+    Wide {
+        w: h.w,
+        q: h.q,
+        width: exact::lowest(h.w, h.q),
+    }
+}
+
+pub fn complete(p: Plotted) -> Drawn
+    ensures { λ d. ⌜ Completes p d ⌝ }
+{
+    match p {
+        Plotted::Line(c) => Drawn::Line(told(c)),
+        Plotted::Several(h) => Drawn::Several(told_width(h)),
     }
 }
 
@@ -145,38 +196,38 @@ fn spread_of(m: usize, d: u64, x: &[i64; 11], low: &[i64; 11], high: &[i64; 11],
 }
 
 // The terminal line, with the larger of the two deviations.
-fn plain(e: Ends, r: Spread, d: u64) -> Fit
+fn plain(e: Ends, r: Spread, d: u64) -> Course
     requires { ⌜ Ready e r d ⌝ }
-    ensures { λ f. ⌜ FitParts (e .a) (e .b) (e .s *ℤ pos d) (greater (r .hi) (pos 0 -ℤ r .lo)) f ⌝ }
+    ensures { λ c. ⌜ CourseParts c (e .a) (e .b) (e .s *ℤ pos d) (greater (r .hi) (pos 0 -ℤ r .lo)) ⌝ }
 {
     let s = e.s;
     let lo = r.lo;
-    told(e.a, e.b, s * (d as i64), larger(r.hi, 0 - lo))
+    lay(e.a, e.b, s * (d as i64), larger(r.hi, 0 - lo))
 }
 
 // The terminal line, moved by half the sum of the two deviations.
-fn centred(e: Ends, r: Spread, d: u64) -> Fit
+fn centred(e: Ends, r: Spread, d: u64) -> Course
     requires { ⌜ Ready e r d ⌝ }
-    ensures { λ f. ⌜ FitParts (pos 2 *ℤ e .a) (pos 2 *ℤ e .b +ℤ (r .lo +ℤ r .hi)) (pos 2 *ℤ e .s *ℤ pos d) (r .hi -ℤ r .lo) f ⌝ }
+    ensures { λ c. ⌜ CourseParts c (pos 2 *ℤ e .a) (pos 2 *ℤ e .b +ℤ (r .lo +ℤ r .hi)) (pos 2 *ℤ e .s *ℤ pos d) (r .hi -ℤ r .lo) ⌝ }
 {
     let a = e.a;
     let b = e.b;
     let s = e.s;
     let lo = r.lo;
     let hi = r.hi;
-    told(2 * a, 2 * b + (lo + hi), 2 * s * (d as i64), hi - lo)
+    lay(2 * a, 2 * b + (lo + hi), 2 * s * (d as i64), hi - lo)
 }
 
 // The line e, moved down by half of s, with the width w.
-fn chord(e: Ends, s: i64, w: i64, d: u64) -> Fit
+fn chord(e: Ends, s: i64, w: i64, d: u64) -> Course
     requires { ⌜ Bounds (e .a ∷ e .b ∷ e .s ∷ s ∷ w ∷ pos d ∷ []) (most-a ∷ most-b ∷ most-gap ∷ most-e ∷ most-e ∷ most-d ∷ []) ⌝ }
     requires { ⌜ Over (e .s) w d ⌝ }
-    ensures { λ f. ⌜ FitParts (pos 2 *ℤ e .a) (pos 2 *ℤ e .b -ℤ s) (pos 2 *ℤ e .s *ℤ pos d) w f ⌝ }
+    ensures { λ c. ⌜ CourseParts c (pos 2 *ℤ e .a) (pos 2 *ℤ e .b -ℤ s) (pos 2 *ℤ e .s *ℤ pos d) w ⌝ }
 {
     let a = e.a;
     let b = e.b;
     let span = e.s;
-    told(2 * a, 2 * b - s, 2 * span * (d as i64), w)
+    lay(2 * a, 2 * b - s, 2 * span * (d as i64), w)
 }
 
 // The chord over the highest values at i and k, moved half way down to a lowest value between them: n is how far that is, times the gap of i and k.
@@ -189,9 +240,9 @@ fn over_high(
     i: usize,
     k: usize,
     n: i64,
-) -> Fit
+) -> Course
     requires { ⌜ Chosen (lent m d (now x) (now low) (now high)) i k n ⌝ }
-    ensures { λ f. ⌜ OverHigh (lent m d (now (x .entry)) (now (low .entry)) (now (high .entry))) i k n f ⌝ }
+    ensures { λ c. ⌜ OverHigh (lent m d (now (x .entry)) (now (low .entry)) (now (high .entry))) i k n (CourseParts c) ⌝ }
 {
     chord(through(x, high, i, k), n, n, d)
 }
@@ -206,25 +257,25 @@ fn over_low(
     i: usize,
     k: usize,
     n: i64,
-) -> Fit
+) -> Course
     requires { ⌜ Chosen (lent m d (now x) (now low) (now high)) i k n ⌝ }
-    ensures { λ f. ⌜ OverLow (lent m d (now (x .entry)) (now (low .entry)) (now (high .entry))) i k n f ⌝ }
+    ensures { λ c. ⌜ OverLow (lent m d (now (x .entry)) (now (low .entry)) (now (high .entry))) i k n (CourseParts c) ⌝ }
 {
     chord(through(x, low, i, k), 0 - n, n, d)
 }
 
 // The line midway between the lines e and h over one gap of inputs, with the width w.
-fn midway(e: Ends, h: Ends, w: i64, d: u64) -> Fit
+fn midway(e: Ends, h: Ends, w: i64, d: u64) -> Course
     requires { ⌜ Bounds (e .a ∷ e .b ∷ e .s ∷ h .a ∷ h .b ∷ w ∷ pos d ∷ []) (most-a ∷ most-b ∷ most-gap ∷ most-a ∷ most-b ∷ most-a ∷ most-d ∷ []) ⌝ }
     requires { ⌜ Over (e .s) w d ⌝ }
-    ensures { λ f. ⌜ FitParts (e .a +ℤ h .a) (e .b +ℤ h .b) (pos 2 *ℤ e .s *ℤ pos d) (w *ℤ e .s) f ⌝ }
+    ensures { λ c. ⌜ CourseParts c (e .a +ℤ h .a) (e .b +ℤ h .b) (pos 2 *ℤ e .s *ℤ pos d) (w *ℤ e .s) ⌝ }
 {
     let a = e.a;
     let b = e.b;
     let s = e.s;
     let u = h.a;
     let v = h.b;
-    told(a + u, b + v, 2 * s * (d as i64), w * s)
+    lay(a + u, b + v, 2 * s * (d as i64), w * s)
 }
 
 // The line through the middles at i and j, where the gap of the values is the same.
@@ -236,9 +287,9 @@ fn middles(
     high: &[i64; 11],
     i: usize,
     j: usize,
-) -> Fit
+) -> Course
     requires { ⌜ Admitted (lent m d (now x) (now low) (now high)) × (i < j) × (j < m) ⌝ }
-    ensures { λ f. ⌜ PairParts (lent m d (now (x .entry)) (now (low .entry)) (now (high .entry))) i j f ⌝ }
+    ensures { λ c. ⌜ PairParts (lent m d (now (x .entry)) (now (low .entry)) (now (high .entry))) i j (CourseParts c) ⌝ }
 {
     midway(
         through(x, low, i, j),
@@ -249,16 +300,11 @@ fn middles(
 }
 
 // The width w/(2d) alone.
-pub fn only(w: i64, d: u64) -> Wide
+pub fn only(w: i64, d: u64) -> Reach
     requires { ⌜ (natAbs w ≤ most-e) × (d ≤ most-d) ⌝ }
-    ensures { λ h. ⌜ WideParts w d h ⌝ }
+    ensures { λ h. ⌜ ReachParts w d h ⌝ }
 {
-    let q = 2 * d;
-    Wide {
-        w,
-        q,
-        width: exact::lowest(w, q),
-    }
+    Reach { w, q: 2 * d }
 }
 
 // An input that no chord reaches: one line, where another input has its gap.
@@ -270,32 +316,32 @@ fn single(
     high: &[i64; 11],
     top: Top,
     i: usize,
-) -> Drawn
+) -> Plotted
     requires { ⌜ Admitted (lent m d (now x) (now low) (now high)) × Greatest (lent m d (now x) (now low) (now high)) top × (top .which ≡ Candidate.One i) ⌝ }
-    ensures { λ r. ⌜ BestDue (lent m d (now (x .entry)) (now (low .entry)) (now (high .entry))) r ⌝ }
+    ensures { λ p. ⌜ PlotDue (BestDue (lent m d (now (x .entry)) (now (low .entry)) (now (high .entry)))) p ⌝ }
 {
     let j = search::twin(m, d, x, low, high, i);
     if j == m {
-        return Drawn::Several(only(top.num, d));
+        return Plotted::Several(only(top.num, d));
     }
     if i < j {
-        Drawn::Line(middles(m, d, x, low, high, i, j))
+        Plotted::Line(middles(m, d, x, low, high, i, j))
     } else {
-        Drawn::Line(middles(m, d, x, low, high, j, i))
+        Plotted::Line(middles(m, d, x, low, high, j, i))
     }
 }
 
 // The line of least largest deviation, of points that are known to be admitted.
-pub fn best_of(m: usize, d: u64, x: &[i64; 11], low: &[i64; 11], high: &[i64; 11]) -> Drawn
+pub fn best_of(m: usize, d: u64, x: &[i64; 11], low: &[i64; 11], high: &[i64; 11]) -> Plotted
     requires { ⌜ Admitted (lent m d (now x) (now low) (now high)) ⌝ }
-    ensures { λ r. ⌜ BestDue (lent m d (now (x .entry)) (now (low .entry)) (now (high .entry))) r ⌝ }
+    ensures { λ p. ⌜ PlotDue (BestDue (lent m d (now (x .entry)) (now (low .entry)) (now (high .entry)))) p ⌝ }
 {
     let top = search::greatest(m, d, x, low, high);
     let which = top.which;
     match which {
         Candidate::One(i) => single(m, d, x, low, high, top, i),
-        Candidate::Up(i, _, k) => Drawn::Line(over_high(m, d, x, low, high, i, k, top.num)),
-        Candidate::Down(i, _, k) => Drawn::Line(over_low(m, d, x, low, high, i, k, top.num)),
+        Candidate::Up(i, _, k) => Plotted::Line(over_high(m, d, x, low, high, i, k, top.num)),
+        Candidate::Down(i, _, k) => Plotted::Line(over_low(m, d, x, low, high, i, k, top.num)),
     }
 }
 
@@ -306,13 +352,13 @@ pub fn best(m: usize, d: u64, x: &[i64; 11], low: &[i64; 11], high: &[i64; 11]) 
     if !band::is_admitted(m, d, x, low, high) {
         return Drawn::Improper;
     }
-    best_of(m, d, x, low, high)
+    complete(best_of(m, d, x, low, high))
 }
 
 // The terminal line, through the first and the last point, of points that are known to be admitted, with one value at each input.
-pub fn terminal_of(m: usize, d: u64, x: &[i64; 11], low: &[i64; 11], high: &[i64; 11]) -> Fit
+pub fn terminal_of(m: usize, d: u64, x: &[i64; 11], low: &[i64; 11], high: &[i64; 11]) -> Course
     requires { ⌜ Admitted (lent m d (now x) (now low) (now high)) × OneValue (lent m d (now x) (now low) (now high)) ⌝ }
-    ensures { λ f. ⌜ TheTerminal (lent m d (now (x .entry)) (now (low .entry)) (now (high .entry))) f ⌝ }
+    ensures { λ c. ⌜ CourseDue (TheTerminal (lent m d (now (x .entry)) (now (low .entry)) (now (high .entry)))) c ⌝ }
 {
     let e = through(x, low, 0, m - 1);
     let r = spread_of(m, d, x, low, high, e);
@@ -326,13 +372,13 @@ pub fn terminal(m: usize, d: u64, x: &[i64; 11], low: &[i64; 11], high: &[i64; 1
     if !band::is_drawn(m, d, x, low, high) {
         return Drawn::Improper;
     }
-    Drawn::Line(terminal_of(m, d, x, low, high))
+    Drawn::Line(told(terminal_of(m, d, x, low, high)))
 }
 
 // The shifted terminal line, of points that are known to be admitted, with one value at each input.
-pub fn shifted_of(m: usize, d: u64, x: &[i64; 11], low: &[i64; 11], high: &[i64; 11]) -> Fit
+pub fn shifted_of(m: usize, d: u64, x: &[i64; 11], low: &[i64; 11], high: &[i64; 11]) -> Course
     requires { ⌜ Admitted (lent m d (now x) (now low) (now high)) × OneValue (lent m d (now x) (now low) (now high)) ⌝ }
-    ensures { λ f. ⌜ TheShifted (lent m d (now (x .entry)) (now (low .entry)) (now (high .entry))) f ⌝ }
+    ensures { λ c. ⌜ CourseDue (TheShifted (lent m d (now (x .entry)) (now (low .entry)) (now (high .entry)))) c ⌝ }
 {
     let e = through(x, low, 0, m - 1);
     let r = spread_of(m, d, x, low, high, e);
@@ -346,5 +392,5 @@ pub fn shifted(m: usize, d: u64, x: &[i64; 11], low: &[i64; 11], high: &[i64; 11
     if !band::is_drawn(m, d, x, low, high) {
         return Drawn::Improper;
     }
-    Drawn::Line(shifted_of(m, d, x, low, high))
+    Drawn::Line(told(shifted_of(m, d, x, low, high)))
 }

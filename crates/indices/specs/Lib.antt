@@ -1,10 +1,1 @@
-pub mod Due
-pub mod Parts
-pub mod Transfer
-pub mod Admitted
-pub mod Standing
-pub mod Given
-pub mod Pinned
-pub mod Once
 pub mod Nine
-pub mod Basis

@@ -1,32 +1,32 @@
--- Every index of a run is the one that is due. Method.
+-- What is shown of every index of a run is shown of the answer that is due. Method.
 use mathlib.Core.Path.{_≡_, subst}
-use mathlib.Core.Bool.{false}
-use lib.Dec.{T}
-use Rattle.run.specs.Limits.{verdict}
+use Prim.Native.Nat.{ℕ}
 use Rattle.run.specs.declared.Run.{Run}
-use Rattle.indices.specs.Due.{from-zero, scatters, Given, Due, given}
-use Rattle.indices.specs.declared.Answer.{Answer}
-use Rattle.indices.specs.declared.Limited.{Limited}
+use Rattle.due.specs.Due.{span}
+use Rattle.due.specs.Ground.{ShownBy, LineBy, GroundDue}
+use Rattle.due.specs.GroundLaws.{ShownDue, Shows, ground-shown, ground-shows}
+use Rattle.due.specs.declared.Ground.{Ground}
+use Rattle.due.specs.declared.Index.{Index}
+use Rattle.due.specs.declared.Index.the-variants as index
+use Rattle.due.specs.declared.Ruled.{Ruled}
+use Rattle.due.specs.declared.Shown.{Shown}
 use Rattle.indices.specs.declared.Nine.{Nine}
-use Rattle.indices.specs.declared.Index.{Index}
-use Rattle.indices.specs.declared.Index.the-variants as index
 
 pub record NineDue (r : Run) (q : Nine) : Type 0 where
-  pub terminal : Due index.Terminal r (q .terminal)
-  pub shifted : Due index.Shifted r (q .shifted)
-  pub independent : Due index.Independent r (q .independent)
-  pub zero : Due index.Zero r (q .zero)
-  pub front : Due index.Front r (q .front)
-  pub hysteresis : Due index.Hysteresis r (q .hysteresis)
-  pub repeatability : Due index.Repeatability r (q .repeatability)
-  pub lh : Due index.Lh r (q .lh)
-  pub lhr : Due index.Lhr r (q .lhr)
+  pub terminal : ShownDue index.Terminal r (q .terminal)
+  pub shifted : ShownDue index.Shifted r (q .shifted)
+  pub independent : ShownDue index.Independent r (q .independent)
+  pub zero : ShownDue index.Zero r (q .zero)
+  pub front : ShownDue index.Front r (q .front)
+  pub hysteresis : ShownDue index.Hysteresis r (q .hysteresis)
+  pub repeatability : ShownDue index.Repeatability r (q .repeatability)
+  pub lh : ShownDue index.Lh r (q .lh)
+  pub lhr : Shows index.Lhr r (q .lhr) (q .line)
 
--- the two that rest on limits
-pub record LimitedDue (r : Run) (q : Limited) : Type 0 where
-  pub repeatability : Due index.Repeatability r (q .repeatability)
-  pub lhr : Due index.Lhr r (q .lhr)
+-- the span that the code works with is the run's
+module _ (which : Index) (r : Run) (g : Ground) {k : ℕ} (due : GroundDue which r g) (e : k ≡ span r) where
+  pub shown-due : {s : Shown} → ShownBy g k s → ShownDue which r s
+  shown-due {s} p = ground-shown which r g due (subst (λ (n : ℕ). ShownBy g n s) e p)
 
--- an index that neither 15 nor 13 refuses
-pub plainly : (which : Index) {r : Run} {a : Answer} → from-zero which ≡ false → scatters which ≡ false → verdict r .number ≡ 0 → Given which r a → Due which r a
-plainly which e f v g = given v (λ h. absurd (subst T e (h .asked))) (λ h. absurd (subst T f (h .0))) g
+  pub shows-due : {s : Shown} {l : Ruled} → ShownBy g k s → LineBy g l → Shows which r s l
+  shows-due {s} p q = ground-shows which r g due (subst (λ (n : ℕ). ShownBy g n s) e p) q

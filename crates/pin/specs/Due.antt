@@ -15,7 +15,7 @@ use Rattle.band.specs.Line.{Points, Proper, OneValue, Passing, Same}
 use Rattle.band.specs.Same.{same-written, same-passing, exclusive}
 use Rattle.band.specs.Band.{Admitted}
 use Rattle.fit.specs.Answer.{line-of, TheLine, OnlyWidth}
-use Rattle.fit.specs.Parts.{WideParts}
+use Rattle.fit.specs.Parts.{FitParts, WideParts}
 use Rattle.fit.specs.Scaled.{Alike, alike-written, least-alike, several-alike, the-line}
 use Rattle.fit.specs.declared.Fit.{Fit}
 use Rattle.fit.specs.declared.Wide.{Wide}
@@ -68,7 +68,7 @@ module _ {P : Points} {p : Pin} {t : Pair} {w : ℤ} (ready : Ready P p) (level 
   nearer : ltZ (t .num *ℤ pos 1) (w *ℤ t .den) ≡ false → Nearer P x v (t .i) (t .j)
   nearer e o = omega (arith, ltb-false (n * 1) (r * s) (sym (tested (own .own o)) ∙ e))
 
-  module _ (test : ltZ (t .num *ℤ pos 1) (w *ℤ t .den) ≡ false) {f : Fit} (h : LineParts P p t f) where
+  module _ (test : ltZ (t .num *ℤ pos 1) (w *ℤ t .den) ≡ false) {f : Fit} (h : LineParts P p t (FitParts f)) where
     some : 0 < part P x (t .i) (t .j)
     some = part-some proper (top .fits)
 

@@ -7,8 +7,6 @@ use lib.Signed.{_≤ℤ_, _<ℤ_, ltZ}
 use Rattle.band.specs.Line.{Points, Passing}
 use Rattle.band.specs.Band.{most-x, most-v, Admitted}
 use Rattle.fit.specs.Answer.{TheLine, OnlyWidth}
-use Rattle.fit.specs.Parts.{FitParts}
-use Rattle.fit.specs.declared.Fit.{Fit}
 use Rattle.fit.specs.declared.Drawn.{Drawn}
 use Rattle.fit.specs.declared.Drawn.the-variants as drawn
 use Rattle.pin.specs.Pair.{rise, num, den, Fits, AtMost, Greatest}
@@ -84,11 +82,11 @@ pub record Found (P : Points) (p : Pin) (t : Pair) : Type 0 where
   pub top : Greatest P (p .x .count) (p .v .count) (t .i) (t .j)
 
 -- ---- what is made of it
--- f is told with the numbers of the pair's line
-abbrev pub LineParts : Points → Pin → Pair → Fit → Type 0
-LineParts P p t f =
+-- T of the numbers of the pair's line
+abbrev pub LineParts : Points → Pin → Pair → (ℤ → ℤ → ℤ → ℤ → Type 0) → Type 0
+LineParts P p t T =
     let a = rise P (p .v .count) (t .i) +ℤ rise P (p .v .count) (t .j) in
-    FitParts a (p .v .count *ℤ t .den -ℤ a *ℤ p .x .count) (t .den *ℤ pos (P .d)) (t .num) f
+    T a (p .v .count *ℤ t .den -ℤ a *ℤ p .x .count) (t .den *ℤ pos (P .d)) (t .num)
 
 -- w is how far the first value lies off, where the first input is x itself; else 0
 pub record OwnDistance (P : Points) (p : Pin) (w : ℤ) : Type 0 where

@@ -9,14 +9,18 @@ ghost use Rattle.whole.specs.Machine.{Bounds};
 ghost use Rattle.units.specs.Units.{input-in, part-in};
 ghost use Rattle.band.specs.Line.{OneValue};
 ghost use Rattle.band.specs.Band.{lent, most-x, most-v, Admitted};
+ghost use Rattle.fit.specs.Parts.{CourseParts};
+ghost use Rattle.fit.specs.Plot.{PlotDue};
 ghost use Rattle.pin.specs.Answer.{NoNegative, ZeroDue, FrontDue};
 ghost use Rattle.pin.specs.Pair.{ahead, Fits, Beyond};
 ghost use Rattle.pin.specs.Search.{most-num, most-den, Ready, Start, ordered, Paired, Told, Partners, Found, LineParts, OwnDistance, PinDue};
 use band::is_drawn;
+use fit::Course;
 use fit::Drawn;
-use fit::Fit;
+use fit::Plotted;
+use fit::complete;
+use fit::lay;
 use fit::only;
-use fit::told;
 use units::Input;
 use units::Part;
 use units::gap;
@@ -201,15 +205,15 @@ fn line_of(
     high: &[i64; 11],
     p: Pin,
     t: Pair,
-) -> Fit
+) -> Course
     requires { ⌜ Ready (lent m d (now x) (now low) (now high)) p × Paired (lent m d (now x) (now low) (now high)) p t ⌝ }
-    ensures { λ f. ⌜ LineParts (lent m d (now (x .entry)) (now (low .entry)) (now (high .entry))) p t f ⌝ }
+    ensures { λ c. ⌜ LineParts (lent m d (now (x .entry)) (now (low .entry)) (now (high .entry))) p t (CourseParts c) ⌝ }
 {
     let a = rise_of(low, p, t.i);
     let b = rise_of(low, p, t.j);
     let u = offset_of(x, low, p, t.i);
     let v = offset_of(x, low, p, t.j);
-    told(a + b, u + v, t.den * (d as i64), t.num)
+    lay(a + b, u + v, t.den * (d as i64), t.num)
 }
 
 // How far the value at the first input lies off every line, where that input is the fixed point's own; else 0.
@@ -234,24 +238,24 @@ fn own_distance(
 }
 
 // The line through the fixed point whose largest deviation is least.
-fn pinned(m: usize, d: u64, x: &[i64; 11], low: &[i64; 11], high: &[i64; 11], p: Pin) -> Drawn
+fn pinned(m: usize, d: u64, x: &[i64; 11], low: &[i64; 11], high: &[i64; 11], p: Pin) -> Plotted
     requires { ⌜ Ready (lent m d (now x) (now low) (now high)) p × Beyond (lent m d (now x) (now low) (now high)) (p .x .count) ⌝ }
     requires { ⌜ OneValue (lent m d (now x) (now low) (now high)) ⌝ }
-    ensures { λ r. ⌜ PinDue (lent m d (now (x .entry)) (now (low .entry)) (now (high .entry))) p r ⌝ }
+    ensures { λ r. ⌜ PlotDue (PinDue (lent m d (now (x .entry)) (now (low .entry)) (now (high .entry))) p) r ⌝ }
 {
     let n = start_of(m, d, x, low, high, p);
     let t = greatest(m, d, x, low, high, p, n);
     let own = own_distance(m, d, x, low, high, p, n);
     if exceeds(own, 1, t.num, t.den) {
-        return Drawn::Several(only(2 * own, d));
+        return Plotted::Several(only(2 * own, d));
     }
-    Drawn::Line(line_of(m, d, x, low, high, p, t))
+    Plotted::Line(line_of(m, d, x, low, high, p, t))
 }
 
 // The zero-based line of points that it may be drawn past.
-pub fn zero_of(m: usize, d: u64, x: &[i64; 11], low: &[i64; 11], high: &[i64; 11]) -> Drawn
+pub fn zero_of(m: usize, d: u64, x: &[i64; 11], low: &[i64; 11], high: &[i64; 11]) -> Plotted
     requires { ⌜ Admitted (lent m d (now x) (now low) (now high)) × OneValue (lent m d (now x) (now low) (now high)) × NoNegative (lent m d (now x) (now low) (now high)) ⌝ }
-    ensures { λ r. ⌜ ZeroDue (lent m d (now (x .entry)) (now (low .entry)) (now (high .entry))) r ⌝ }
+    ensures { λ r. ⌜ PlotDue (ZeroDue (lent m d (now (x .entry)) (now (low .entry)) (now (high .entry)))) r ⌝ }
 {
     pinned(
         m,
@@ -276,13 +280,13 @@ pub fn zero(m: usize, d: u64, x: &[i64; 11], low: &[i64; 11], high: &[i64; 11]) 
     if is_below(input_at(x, 0), Input { count: 0 }) {
         return Drawn::Improper;
     }
-    zero_of(m, d, x, low, high)
+    complete(zero_of(m, d, x, low, high))
 }
 
 // The front terminal-based line of points that it may be drawn past.
-pub fn front_of(m: usize, d: u64, x: &[i64; 11], low: &[i64; 11], high: &[i64; 11]) -> Drawn
+pub fn front_of(m: usize, d: u64, x: &[i64; 11], low: &[i64; 11], high: &[i64; 11]) -> Plotted
     requires { ⌜ Admitted (lent m d (now x) (now low) (now high)) × OneValue (lent m d (now x) (now low) (now high)) ⌝ }
-    ensures { λ r. ⌜ FrontDue (lent m d (now (x .entry)) (now (low .entry)) (now (high .entry))) r ⌝ }
+    ensures { λ r. ⌜ PlotDue (FrontDue (lent m d (now (x .entry)) (now (low .entry)) (now (high .entry)))) r ⌝ }
 {
     pinned(
         m,
@@ -304,5 +308,5 @@ pub fn front(m: usize, d: u64, x: &[i64; 11], low: &[i64; 11], high: &[i64; 11])
     if !is_drawn(m, d, x, low, high) {
         return Drawn::Improper;
     }
-    front_of(m, d, x, low, high)
+    complete(front_of(m, d, x, low, high))
 }

@@ -16,10 +16,10 @@ use Rattle.band.specs.Line.{Line}
 use Rattle.band.specs.Candidate.{Candidate}
 use Rattle.pin.specs.Pair.{rise, wide, part}
 use Rattle.bands.specs.Through.{means, strokes, limit-points, swing, scatter}
-use Rattle.indices.specs.Due.{from-zero, scatters}
-use Rattle.indices.specs.declared.Answer.{Answer}
-use Rattle.indices.specs.declared.Index.{Index}
-use Rattle.indices.specs.declared.Index.the-variants as index
+use Rattle.due.specs.Due.{from-zero, scatters}
+use Rattle.due.specs.declared.Answer.{Answer}
+use Rattle.due.specs.declared.Index.{Index}
+use Rattle.due.specs.declared.Index.the-variants as index
 use Rattle.promises.specs.Figures.{Figure}
 use Rattle.promises.specs.Tests.{all, alike, half, largest-of, single, many, terminal, shifted, pinned, pinned-many, smallests, line-of, stands, width-only}
 

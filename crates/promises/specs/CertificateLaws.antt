@@ -18,12 +18,12 @@ use Rattle.band.specs.Candidate.{Candidate, wide, part}
 use Rattle.pin.specs.Pair as pair
 use Rattle.bands.specs.Through.{means, swing, scatter}
 use Rattle.bands.specs.Parts.{SamePoints}
-use Rattle.bands.specs.declared.Through.the-variants as lines
-use Rattle.indices.specs.Transfer.{same-points-sym, proper-points, within-points, least-points, single-points}
-use Rattle.indices.specs.Admitted.{proper-means, proper-through}
-use Rattle.indices.specs.Due.{Best, Independent, Fits, from-zero, BelowZero, scatters, OneCycle, Given, several, one-line, Due, given}
-use Rattle.indices.specs.declared.Answer.{Answer}
-use Rattle.indices.specs.declared.Index.{Index}
+use Rattle.bands.specs.Parts as lines
+use Rattle.bands.specs.Transfer.{same-points-sym, proper-points, within-points, least-points, single-points}
+use Rattle.bands.specs.Admitted.{proper-means, proper-through}
+use Rattle.due.specs.Due.{Best, Independent, Fits, from-zero, BelowZero, scatters, OneCycle, Given, several, one-line, Due, given}
+use Rattle.due.specs.declared.Answer.{Answer}
+use Rattle.due.specs.declared.Index.{Index}
 use Rattle.promises.specs.Figures.{Figure}
 use Rattle.promises.specs.Tests.{all, single, half, line-of}
 use Rattle.promises.specs.TestLaws.{all-hold, alike-by, largest-of-by, stands-by, width-only-by}

@@ -8,7 +8,7 @@ use Rattle.whole.specs.Every.{every, first-not}
 use Rattle.run.specs.Sample.{filled, cycles, written-out}
 use Rattle.groups.specs.Sums.{sum-to}
 use Rattle.band.specs.Candidate.{one, up, down}
-use Rattle.indices.specs.Due.{Due}
+use Rattle.due.specs.Due.{Due}
 use Rattle.promises.specs.Figures.{Figure, figures}
 use Rattle.promises.specs.Tests.{line, divisor}
 use Rattle.promises.specs.Certificate.{Certificate, one-line, zero-several, lh-several, far, ends, best, zero, front, swings, varies, lh, lhr, Limits, certifies}

@@ -1,6 +1,6 @@
 -- Demand 1. "Every byte string given as a run file, and every run built by hand, gets its numbers or exactly one refusal of the paper's table, chosen by the paper's order of checks, with the fixed fields listed there; a lent buffer then holds what it held before."
 --
--- What it says: for each byte string, and for each run and index, there is exactly one answer that has its condition. The conditions stand row by row in `Because` (runfile) and `Due` (indices), each saying that none before it holds. The numbers are those of the paper's table and 15 of request C-11, the fields under a refusal are the fixed ones, and a refused write or sheet leaves the buffer as it was.
+-- What it says: for each byte string, and for each run and index, there is exactly one answer that has its condition. The conditions stand row by row in `Because` (runfile) and `Due` (due), each saying that none before it holds. The numbers are those of the paper's table and 15 of request C-11, the fields under a refusal are the fixed ones, and a refused write or sheet leaves the buffer as it was.
 -- What it does not say: what a program reads and prints. No contract can; the comparison with the second program holds it.
 use mathlib.Core.Path.{_≡_, refl, sym, ap, _∙_, subst}
 use mathlib.Core.List.{List, [], _∷_, _++_}
@@ -20,10 +20,10 @@ use Rattle.runfile.specs.Because.{Because}
 use Rattle.runfile.specs.Sentences.{sentence, only}
 use Rattle.averages.specs.Averages.{AveragesDue}
 use Rattle.averages.specs.Once.{one-averages}
-use Rattle.indices.specs.Due.{refused, only-width, Due, no-run, below-zero, one-cycle, given, several, one-line}
-use Rattle.indices.specs.Once.{one-answer}
-use Rattle.indices.specs.declared.Answer.{Answer}
-use Rattle.indices.specs.declared.Index.{Index}
+use Rattle.due.specs.Due.{refused, only-width, Due, no-run, below-zero, one-cycle, given, several, one-line}
+use Rattle.due.specs.Once.{one-answer}
+use Rattle.due.specs.declared.Answer.{Answer}
+use Rattle.due.specs.declared.Index.{Index}
 use Rattle.sheet_text.specs.Sheet.{SheetDue, PrintDue, fits, short}
 use Rattle.sheet_text.specs.Once.{one-sheet, one-print}
 use Rattle.promises.specs.Exists.{some-answer}

@@ -32,11 +32,11 @@ use Rattle.averages.specs.declared.Averages.{Averages}
 use Rattle.band.specs.Line.{Line, All, Zero, Front, Least, Single}
 use Rattle.pin.specs.Exists.{front-single}
 use Rattle.bands.specs.Through.{means}
-use Rattle.indices.specs.Due.{Best, Fits, SeveralFit, span, Stands, Given, several, one-line, Due, no-run, below-zero, one-cycle, given}
-use Rattle.indices.specs.Admitted.{proper-means}
-use Rattle.indices.specs.declared.Answer.{Answer}
-use Rattle.indices.specs.declared.Index.{Index}
-use Rattle.indices.specs.declared.Index.the-variants as kinds
+use Rattle.due.specs.Due.{Best, Fits, SeveralFit, span, Stands, Given, several, one-line, Due, no-run, below-zero, one-cycle, given}
+use Rattle.bands.specs.Admitted.{proper-means}
+use Rattle.due.specs.declared.Answer.{Answer}
+use Rattle.due.specs.declared.Index.{Index}
+use Rattle.due.specs.declared.Index.the-variants as kinds
 use Rattle.promises.specs.Reported.{Reports}
 use Rattle.promises.specs.ReportedLaws.{the-independent, the-zero, the-front}
 use Rattle.promises.specs.Numbers.{the-negative, fifteen}

@@ -8,9 +8,9 @@ use lib.IntN.{pos, _+ℤ_, _-ℤ_, _*ℤ_}
 use Rattle.run.specs.Limits.{verdict}
 use Rattle.run.specs.declared.Run.{Run}
 use Rattle.band.specs.Line.{Line}
-use Rattle.indices.specs.Due.{Due}
-use Rattle.indices.specs.declared.Answer.{Answer}
-use Rattle.indices.specs.declared.Index.the-variants as index
+use Rattle.due.specs.Due.{Due}
+use Rattle.due.specs.declared.Answer.{Answer}
+use Rattle.due.specs.declared.Index.the-variants as index
 use Rattle.promises.specs.Exact.{exact-limit, Keeps, KeepsCloser}
 use Rattle.promises.specs.Reported.{Reports}
 use Rattle.promises.specs.Rounded.{lost, kept-closer}

@@ -14,10 +14,10 @@ use Rattle.band.specs.Terminal.{terminal-line, terminal-some, terminal, termina
 use Rattle.band.specs.Shift.{Range, moved, moved-some, moved-parallel, moved-within, moved-least, moved-single, shift-wide, shift-part}
 use Rattle.fit.specs.Scaled.{least-family, single-family, parallel-same}
 use Rattle.bands.specs.Through.{means}
-use Rattle.indices.specs.Due.{Best, Fits}
-use Rattle.indices.specs.Admitted.{proper-means}
-use Rattle.indices.specs.declared.Index.{Index}
-use Rattle.indices.specs.declared.Index.the-variants as index
+use Rattle.due.specs.Due.{Best, Fits}
+use Rattle.bands.specs.Admitted.{proper-means}
+use Rattle.due.specs.declared.Index.{Index}
+use Rattle.due.specs.declared.Index.the-variants as index
 use Rattle.promises.specs.Some.{Top, some-top, turned, some-largest}
 
 -- an index of a run has a line and a width

@@ -17,13 +17,14 @@ use Rattle.run.specs.declared.Run.{Run}
 use Rattle.groups.specs.Sums.{limit}
 use Rattle.band.specs.Line.{Line, Points}
 use Rattle.bands.specs.Through.{LargestOf, swing, scatter}
-use Rattle.bands.specs.declared.Through.the-variants as lines
-use Rattle.indices.specs.Due.{Best, Independent, Fits, Many, SeveralFit, refused, only-width, span, Stands, from-zero, BelowZero, scatters, OneCycle, Given, several, one-line, Due, no-run, below-zero, one-cycle, given}
-use Rattle.indices.specs.Pinned.{first-negative, below-first, not-negative}
-use Rattle.indices.specs.declared.Answer.{Answer}
-use Rattle.indices.specs.declared.Index.{Index}
-use Rattle.indices.specs.declared.Index.the-variants as index
-use Rattle.promises.specs.Some.{some-made, some-largest}
+use Rattle.bands.specs.Parts as lines
+use Rattle.due.specs.Due.{Best, Independent, Fits, Many, SeveralFit, refused, only-width, span, Stands, from-zero, BelowZero, scatters, OneCycle, Given, several, one-line, Due, no-run, below-zero, one-cycle, given}
+use Rattle.due.specs.DueLaws.{first-negative, below-first, not-negative}
+use Rattle.due.specs.declared.Answer.{Answer}
+use Rattle.due.specs.declared.Index.{Index}
+use Rattle.due.specs.declared.Index.the-variants as index
+use Rattle.exact.specs.Exists.{some-made}
+use Rattle.promises.specs.Some.{some-largest}
 use Rattle.promises.specs.Lines as L
 use Rattle.promises.specs.Lines.{TheBest, Fitted, some-fit, independent}
 use Rattle.promises.specs.Pins.{through-origin, through-first}

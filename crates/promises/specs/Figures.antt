@@ -7,9 +7,9 @@ use lib.IntN.{ℤ, pos, negsuc}
 use Rattle.exact.specs.declared.Fraction.{Fraction}
 use Rattle.run.specs.Sample.{written-out, sample}
 use Rattle.run.specs.declared.Run.{Run}
-use Rattle.indices.specs.declared.Answer.{Answer}
-use Rattle.indices.specs.declared.Index.{Index}
-use Rattle.indices.specs.declared.Index.the-variants as index
+use Rattle.due.specs.declared.Answer.{Answer}
+use Rattle.due.specs.declared.Index.{Index}
+use Rattle.due.specs.declared.Index.the-variants as index
 
 abbrev pub over : ℤ → ℕ → Fraction
 over n d = record { num = n; den = d }

@@ -24,7 +24,7 @@ use Rattle.band.specs.Terminal as ends
 use Rattle.band.specs.Shift.{Range, moved-least, moved-single}
 use Rattle.band.specs.Same.{through}
 use Rattle.fit.specs.Scaled.{Alike, within-alike, least-alike, several-alike, single-alike, least-family, single-family, parallel-same}
-use Rattle.indices.specs.Due.{Best, Many}
+use Rattle.due.specs.Due.{Best, Many}
 use Rattle.promises.specs.Tests.{all, same, height, top, near, within, among, triple, greatest, single, half, unlike, many, terminal, between, shifted}
 use Rattle.promises.specs.TestLaws.{all-hold, same-is, alike-by}
 

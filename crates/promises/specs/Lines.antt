@@ -24,11 +24,10 @@ use Rattle.search.specs.declared.Candidate as S
 use Rattle.search.specs.declared.Candidate.the-variants.{One, Up, Down}
 use Rattle.search.specs.declared.Top.{Top}
 use Rattle.bands.specs.Through.{means}
-use Rattle.bands.specs.Parts.{through}
-use Rattle.bands.specs.declared.Through.{Through}
-use Rattle.bands.specs.declared.Through.the-variants as lines
-use Rattle.indices.specs.Due.{Best, Many}
-use Rattle.indices.specs.Admitted.{admitted-through}
+use Rattle.bands.specs.Parts.{Through, through}
+use Rattle.bands.specs.Parts as lines
+use Rattle.due.specs.Due.{Best, Many}
+use Rattle.bands.specs.Admitted.{admitted-through}
 
 -- of the lines of the family F
 pub record TheBest (F : Line → Type 0) (P : Points) : Type 0 where

@@ -26,10 +26,10 @@ use Rattle.writer.specs.File.{file, written, buffer-after}
 use Rattle.writer.specs.declared.Written.{Written}
 use Rattle.runfile.specs.Because.{Because, cut-first, cut-later, unknown-first, unknown-later, sizes-out, place-out, number-out, second-time, missing, byte-after, not-rising, scattered, accepted}
 use Rattle.band.specs.Line.{Line}
-use Rattle.indices.specs.Due.{span, Stands, several, one-line, Due, no-run, below-zero, one-cycle, given}
-use Rattle.indices.specs.Once.{one-answer}
-use Rattle.indices.specs.declared.Answer as indices
-use Rattle.indices.specs.declared.Index.the-variants as index
+use Rattle.due.specs.Due.{span, Stands, several, one-line, Due, no-run, below-zero, one-cycle, given}
+use Rattle.due.specs.Once.{one-answer}
+use Rattle.due.specs.declared.Answer as told
+use Rattle.due.specs.declared.Index.the-variants as index
 
 -- ---- a run's check: 3, 5, 9, 10, or none
 pub verdict-ind : (r : Run) (P : ℕ → Type 0) → P 0 → P 3 → P 5 → P 9 → P 10 → P (verdict r .number)
@@ -67,7 +67,7 @@ read (scattered _ _ _ e) = refuses 10 _ (omega arith) e
 read (accepted _ _ _ e) = record { number = rw e (omega arith); run = λ n. absurd (n (ap (λ (a : Answer). a .number) e)) }
 
 -- ---- an index with its line: 0 or 11, and under 11 the index is 0/1
-module _ {r : Run} {L : Line} {w z : ℕ} {a : indices.Answer} (s : Stands r L w z a) where
+module _ {r : Run} {L : Line} {w z : ℕ} {a : told.Answer} (s : Stands r L w z a) where
   pub stands-ind : (P : ℕ → Type 0) → P 0 → P 11 → P (a .number)
   stands-ind P none flat = go (ℤ-discrete (L .a) (pos 0))
     where
@@ -92,16 +92,16 @@ module _ {r : Run} {L : Line} {w z : ℕ} {a : indices.Answer} (s : Stands r L w
       go (no d) = let n = s .sloping d in absurd (omega arith)
 
 -- ---- 15, and a negative input
-module _ (r : Run) (e : verdict r .number ≡ 0) (a : indices.Answer) where
+module _ (r : Run) (e : verdict r .number ≡ 0) (a : told.Answer) where
   pub the-negative : Due index.Zero r a → a .number ≡ 15 → (i : ℕ) × (i < r .m) × (input r i <ℤ pos 0)
   the-negative (no-run n _) number = absurd (n e)
   the-negative (below-zero _ b _) number = (b .at, b .within, b .negative)
   the-negative (one-cycle _ _ o _) number = absurd (o .0)
-  the-negative (given _ _ _ (several w z _ _ _ q)) number = let z : _≡_ {A = ℕ} 12 15 = sym (ap (λ (a : indices.Answer). a .number) q) ∙ number in absurd (omega arith)
+  the-negative (given _ _ _ (several w z _ _ _ q)) number = let z : _≡_ {A = ℕ} 12 15 = sym (ap (λ (a : told.Answer). a .number) q) ∙ number in absurd (omega arith)
   the-negative (given _ _ _ (one-line L w z _ _ s)) number = absurd (stands-ind s (λ n. n ≡ 15 → ⊥) (λ z. omega arith) (λ z. omega arith) number)
 
   pub fifteen : Due index.Zero r a → (i : ℕ) → i < r .m → input r i <ℤ pos 0 → a .number ≡ 15
-  fifteen due i h l = ap (λ (a : indices.Answer). a .number) (one-answer index.Zero r due (below-zero e (record { asked = tt; at = i; within = h; negative = l }) refl))
+  fifteen due i h l = ap (λ (a : told.Answer). a .number) (one-answer index.Zero r due (below-zero e (record { asked = tt; at = i; within = h; negative = l }) refl))
 
 -- ---- a buffer lent to the writer: what the check says, or 14
 module _ (r : Run) (buffer : List ℕ) where

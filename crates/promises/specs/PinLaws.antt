@@ -9,7 +9,7 @@ use Rattle.band.specs.Line.{Line, Points, Proper, Passing}
 use Rattle.pin.specs.Pair.{ahead, rise, wide, part, Fits}
 use Rattle.pin.specs.PairLaws.{part-some, no-less, pair-single}
 use Rattle.pin.specs.OwnLaws.{own-no-less}
-use Rattle.indices.specs.Due.{Best, Many}
+use Rattle.due.specs.Due.{Best, Many}
 use Rattle.promises.specs.Tests.{all, is-ahead, pinned, pinned-many}
 use Rattle.promises.specs.TestLaws.{all-hold, same-is}
 use Rattle.promises.specs.LineLaws.{within-by, differ}

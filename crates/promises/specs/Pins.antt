@@ -16,7 +16,7 @@ use Rattle.pin.specs.PairLine.{pair-within, pair-least}
 use Rattle.pin.specs.OwnLaws.{own-least, own-several}
 use Rattle.pin.specs.Exists.{some-greatest, front-single}
 use Rattle.bands.specs.Through.{means}
-use Rattle.indices.specs.Admitted.{proper-means}
+use Rattle.bands.specs.Admitted.{proper-means}
 use Rattle.promises.specs.Lines.{TheBest, Fitted, one-line, many}
 
 -- the line of the greatest pair; where the value at the point itself lies further off, several reach what that says

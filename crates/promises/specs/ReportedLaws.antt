@@ -12,10 +12,10 @@ use Rattle.band.specs.Line.{Line, Points, All, Passing, Zero, Front, Same}
 use Rattle.band.specs.Same.{through, same-passing}
 use Rattle.fit.specs.Scaled.{Alike}
 use Rattle.bands.specs.Through.{means}
-use Rattle.indices.specs.Due.{Best, Stands, several, one-line, Due, no-run, below-zero, one-cycle, given}
-use Rattle.indices.specs.Standing.{best-same}
-use Rattle.indices.specs.declared.Answer.{Answer}
-use Rattle.indices.specs.declared.Index.the-variants as index
+use Rattle.due.specs.Due.{Best, Stands, several, one-line, Due, no-run, below-zero, one-cycle, given}
+use Rattle.due.specs.DueLaws.{best-same}
+use Rattle.due.specs.declared.Answer.{Answer}
+use Rattle.due.specs.declared.Index.the-variants as index
 use Rattle.promises.specs.Reported.{Reports}
 use Rattle.promises.specs.LineLaws.{best-alike}
 

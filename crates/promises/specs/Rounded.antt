@@ -11,9 +11,9 @@ use Rattle.band.specs.Line.{Line, Within, All, Least}
 use Rattle.band.specs.Same.{same-within}
 use Rattle.fit.specs.Scaled.{within-alike, least-alike}
 use Rattle.bands.specs.Through.{limit-points}
-use Rattle.indices.specs.Due.{Given, several, one-line, Due, no-run, below-zero, one-cycle, given}
-use Rattle.indices.specs.declared.Answer.{Answer}
-use Rattle.indices.specs.declared.Index.the-variants as index
+use Rattle.due.specs.Due.{Given, several, one-line, Due, no-run, below-zero, one-cycle, given}
+use Rattle.due.specs.declared.Answer.{Answer}
+use Rattle.due.specs.declared.Index.the-variants as index
 use Rattle.promises.specs.Exact.{exact-limit, Keeps, KeepsCloser}
 use Rattle.promises.specs.Reported.{Reports}
 use Rattle.promises.specs.ReportedLaws.{made-alike, made-sign, reported}

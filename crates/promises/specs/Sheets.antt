@@ -18,7 +18,7 @@ use Rattle.averages.specs.declared.Averages.{Averages}
 use Rattle.averages.specs.declared.Mean.{Mean}
 use Rattle.averages.specs.declared.Mean.the-variants.{Up, Down, Both}
 use Rattle.sheet_text.specs.Sheet.{lines, SheetDue, refused, accepted}
-use Rattle.promises.specs.Some.{some-made}
+use Rattle.exact.specs.Exists.{some-made}
 use Rattle.promises.specs.Exists.{some-answer}
 
 -- ---- averages

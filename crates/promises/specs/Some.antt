@@ -1,24 +1,13 @@
--- What an answer is made of is there: a fraction in lowest terms, and the largest of finitely many numbers. That there is a nearest whole number is in `exact`, `RoundingLaws`.
+-- Of finitely many numbers there is a largest. That the other parts of an answer are there is in `exact`: a fraction in lowest terms in `Exists`, a nearest whole number in `RoundingLaws`.
 use mathlib.Core.Path.{refl}
-use Prim.Native.Nat.{ℕ, zero, suc, _-_, _<_, _≤_}
+use Prim.Native.Nat.{ℕ, _-_, _<_, _≤_}
 use native.Mathlib.Omega.{arith}
-use lib.IntN.{ℤ, pos, natAbs, negℤ}
+use lib.IntN.{ℤ, pos, negℤ}
 use lib.Signed.{_≤ℤ_}
 use Rattle.whole.specs.Balance as B
 use Rattle.whole.specs.Balance.{int, nat, opp, _⊠_}
-use Rattle.exact.specs.Value.{Made, nought}
-use Rattle.exact.specs.Euclid.{gcd-within}
-use Rattle.exact.specs.Terms.{through, made-through, made-nought}
-use Rattle.exact.specs.declared.Fraction.{Fraction}
 use Rattle.band.specs.Highest.{highest}
 use Rattle.bands.specs.Through.{LargestOf}
-
--- ---- fractions
-pub some-made : (n : ℤ) (d : ℕ) → (f : Fraction) × Made n d f
-some-made n zero = (nought, made-nought n 0 refl)
-some-made n (suc d) =
-    let g = gcd-within (suc (suc d)) (natAbs n) (suc d) (omega arith) in
-    (through n (suc d) (g .0), made-through (omega arith) n (g .1))
 
 -- ---- the largest
 pub record Top (m : ℕ) (f : ℕ → ℤ) : Type 0 where

@@ -22,8 +22,8 @@ use Rattle.run.specs.declared.Run.{Run}
 use Rattle.band.specs.Line.{Line}
 use Rattle.fit.specs.Scaled.{Alike}
 use Rattle.bands.specs.Through.{LargestOf}
-use Rattle.indices.specs.Due.{only-width, Stands}
-use Rattle.indices.specs.declared.Answer.{Answer}
+use Rattle.due.specs.Due.{only-width, Stands}
+use Rattle.due.specs.declared.Answer.{Answer}
 use Rattle.promises.specs.Tests.{all, same, divisor, zero-one, made, nearest, alike, largest-of, stands, width-only}
 
 -- each test of a list

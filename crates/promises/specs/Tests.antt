@@ -15,8 +15,8 @@ use Rattle.band.specs.Line.{Line, Points, off}
 use Rattle.band.specs.Candidate.{Candidate, one, up, down, num, wide, part}
 use Rattle.band.specs.Terminal.{terminal-part}
 use Rattle.pin.specs.Pair as pair
-use Rattle.indices.specs.Due.{span}
-use Rattle.indices.specs.declared.Answer.{Answer}
+use Rattle.due.specs.Due.{span}
+use Rattle.due.specs.declared.Answer.{Answer}
 
 -- every test of a list
 abbrev pub all : List Bool → Bool

@@ -10,7 +10,8 @@ use Rattle.band.specs.Candidate.{num, den, Fits}
 use Rattle.band.specs.Candidate as C
 use Rattle.band.specs.Band.{Admitted}
 use Rattle.search.specs.Search.{shown, which}
-use Rattle.search.specs.Over.{Greatest, Holds, Told, over, Singles, Middles, Ends, Starts, singles-none, singles-more, middles-none, middles-more, ends-none, ends-more, starts-none, starts-more, most}
+use Rattle.search.specs.Over.{Greatest, Holds, Told, Singles, Middles, Ends, Starts}
+use Rattle.search.specs.OverLaws.{over, singles-none, singles-more, middles-none, middles-more, ends-none, ends-more, starts-none, starts-more, most}
 use Rattle.search.specs.SearchLaws.{found}
 use Rattle.search.specs.declared.Candidate.{Candidate}
 use Rattle.search.specs.declared.Candidate.the-variants.{One, Up, Down}

@@ -1,7 +1,9 @@
 pub mod Search
 pub mod SearchStep
 pub mod SearchSize
+pub mod Sided
 pub mod Over
+pub mod OverLaws
 pub mod SearchLaws
 pub mod Twin
 pub mod TwinLaws

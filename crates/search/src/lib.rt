@@ -8,8 +8,9 @@ ghost use lib.Signed.{ltZ, leZ};
 ghost use Rattle.whole.specs.Every.{FirstNot};
 ghost use Rattle.whole.specs.Machine.{Bounds};
 ghost use Rattle.band.specs.Band.{lent, Admitted};
-ghost use Rattle.band.specs.Candidate.{up, down, num};
-ghost use Rattle.search.specs.Search.{which-of};
+ghost use Rattle.band.specs.Candidate.{num};
+ghost use Rattle.search.specs.Search.{shown, which-of};
+ghost use Rattle.search.specs.Sided.{sided};
 ghost use Rattle.search.specs.Over.{Greatest, Holds, Told, Singles, HighestChord, Middles, Ends, Most};
 ghost use Rattle.search.specs.Twin.{apart};
 use units::gap;
@@ -70,50 +71,29 @@ fn alone(m: usize, d: u64, x: &[i64; 11], low: &[i64; 11], high: &[i64; 11], i: 
     }
 }
 
-// A chord over the highest values at i and k, above the lowest at j: what stands above its fraction's stroke.
-fn above(
+// How far the chord over the outer values at i and k lies off the inner value at j, times the gap of i and k: above it for the kind 1, and for the other kind beneath it.
+fn off_chord(
     m: usize,
     d: u64,
     x: &[i64; 11],
-    low: &[i64; 11],
-    high: &[i64; 11],
+    outer: &[i64; 11],
+    inner: &[i64; 11],
+    kind: usize,
     i: usize,
     j: usize,
     k: usize,
 ) -> i64
-    requires { ⌜ Admitted (lent m d (now x) (now low) (now high)) × (i < j) × (j < k) × (k < m) ⌝ }
-    ensures { λ r. ⌜ r ≡ num (lent m d (now (x .entry)) (now (low .entry)) (now (high .entry))) (up i j k) ⌝ }
+    requires { ⌜ Admitted (sided kind m d (now x) (now outer) (now inner)) × (i < j) × (j < k) × (k < m) × (0 < kind) ⌝ }
+    ensures { λ r. ⌜ r ≡ num (sided kind m d (now (x .entry)) (now (outer .entry)) (now (inner .entry))) (shown (which-of kind i j k)) ⌝ }
 {
     let a = input_at(x, i);
     let b = input_at(x, j);
     let c = input_at(x, k);
-    let u = part_at(high, i);
-    let v = part_at(low, j);
-    let w = part_at(high, k);
-    bend(gap(a, c), gap(a, b), rise(v, u), rise(u, w))
-}
-
-// The same of the highest value at j, above a chord over the lowest at i and k.
-fn beneath(
-    m: usize,
-    d: u64,
-    x: &[i64; 11],
-    low: &[i64; 11],
-    high: &[i64; 11],
-    i: usize,
-    j: usize,
-    k: usize,
-) -> i64
-    requires { ⌜ Admitted (lent m d (now x) (now low) (now high)) × (i < j) × (j < k) × (k < m) ⌝ }
-    ensures { λ r. ⌜ r ≡ num (lent m d (now (x .entry)) (now (low .entry)) (now (high .entry))) (down i j k) ⌝ }
-{
-    let a = input_at(x, i);
-    let b = input_at(x, j);
-    let c = input_at(x, k);
-    let u = part_at(low, i);
-    let v = part_at(high, j);
-    let w = part_at(low, k);
-    bend(gap(a, c), gap(a, b), rise(u, v), rise(w, u))
+    let u = part_at(outer, i);
+    let v = part_at(inner, j);
+    let w = part_at(outer, k);
+    let n = bend(gap(a, c), gap(a, b), rise(v, u), rise(u, w));
+    if kind == 1 { n } else { 0 - n }
 }
 
 // One fraction below another, and not above it, by cross products.
@@ -195,62 +175,31 @@ fn over_inputs(m: usize, d: u64, x: &[i64; 11], low: &[i64; 11], high: &[i64; 11
     t
 }
 
-// The highest chord from i to k above a lowest value between them: the gap is the same for all, so the numerators alone decide.
-fn highest_above(
+// The highest chord of one kind from i to k: the gap is the same for all, so the numerators alone decide.
+fn highest(
     m: usize,
     d: u64,
     x: &[i64; 11],
-    low: &[i64; 11],
-    high: &[i64; 11],
+    outer: &[i64; 11],
+    inner: &[i64; 11],
+    kind: usize,
     i: usize,
     k: usize,
 ) -> Held
-    requires { ⌜ Admitted (lent m d (now x) (now low) (now high)) × (i + 1 < k) × (k < m) ⌝ }
-    ensures { λ t. ⌜ HighestChord (lent m d (now (x .entry)) (now (low .entry)) (now (high .entry))) (λ j. Candidate.Up i j k) i k t ⌝ }
+    requires { ⌜ Admitted (sided kind m d (now x) (now outer) (now inner)) × (i + 1 < k) × (k < m) × (0 < kind) ⌝ }
+    ensures { λ t. ⌜ HighestChord (sided kind m d (now (x .entry)) (now (outer .entry)) (now (inner .entry))) (λ j. which-of kind i j k) i k t ⌝ }
 {
     let mut t = Middle {
         j: i + 1,
-        num: above(m, d, x, low, high, i, i + 1, k),
+        num: off_chord(m, d, x, outer, inner, kind, i, i + 1, k),
     };
     let mut j = i + 2;
     while j < k {
-        t = with_middle(t, j, above(m, d, x, low, high, i, j, k));
+        t = with_middle(t, j, off_chord(m, d, x, outer, inner, kind, i, j, k));
         j += 1;
     }
     Held {
-        kind: 1,
-        i,
-        j: t.j,
-        k,
-        num: t.num,
-        den: gap(input_at(x, i), input_at(x, k)),
-    }
-}
-
-// The same of the highest values between them, above a chord.
-fn highest_beneath(
-    m: usize,
-    d: u64,
-    x: &[i64; 11],
-    low: &[i64; 11],
-    high: &[i64; 11],
-    i: usize,
-    k: usize,
-) -> Held
-    requires { ⌜ Admitted (lent m d (now x) (now low) (now high)) × (i + 1 < k) × (k < m) ⌝ }
-    ensures { λ t. ⌜ HighestChord (lent m d (now (x .entry)) (now (low .entry)) (now (high .entry))) (λ j. Candidate.Down i j k) i k t ⌝ }
-{
-    let mut t = Middle {
-        j: i + 1,
-        num: beneath(m, d, x, low, high, i, i + 1, k),
-    };
-    let mut j = i + 2;
-    while j < k {
-        t = with_middle(t, j, beneath(m, d, x, low, high, i, j, k));
-        j += 1;
-    }
-    Held {
-        kind: 2,
+        kind,
         i,
         j: t.j,
         k,
@@ -276,8 +225,8 @@ fn over_middles(
     if k == i + 1 {
         return old;
     }
-    let t = with_chord(old, highest_above(m, d, x, low, high, i, k));
-    with_chord(t, highest_beneath(m, d, x, low, high, i, k))
+    let t = with_chord(old, highest(m, d, x, high, low, 1, i, k));
+    with_chord(t, highest(m, d, x, low, high, 2, i, k))
 }
 
 // The chords from i.

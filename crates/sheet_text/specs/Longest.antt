@@ -8,9 +8,9 @@ use Rattle.whole.specs.Flags.{cond-ind}
 use Rattle.plain.specs.Digits.{decimal}
 use Rattle.plain.specs.Plain.{space, line-feed, refused-word, longest}
 use Rattle.plain.specs.Most.{Most, word, after, joined, decimal-most, fraction-most, percent-most}
-use Rattle.indices.specs.declared.Answer.{Answer}
-use Rattle.indices.specs.declared.Index.{Index}
-use Rattle.indices.specs.declared.Index.the-variants as index
+use Rattle.due.specs.declared.Answer.{Answer}
+use Rattle.due.specs.declared.Index.{Index}
+use Rattle.due.specs.declared.Index.the-variants as index
 use Rattle.sheet_text.specs.Sheet.{points-word, cycles-word, line-word, name, head-line, told, index-line, last-line, lines}
 
 head-most : (m n : ℕ) → Most (head-line m n) 56

@@ -9,9 +9,9 @@ use Rattle.plain.specs.declared.Printed.{Printed}
 use Rattle.reader.specs.Meaning.{meaning}
 use Rattle.reader.specs.declared.Answer.{Answer}
 use Rattle.runfile.specs.FirstPart.{first-part}
-use Rattle.indices.specs.Due.{Due}
-use Rattle.indices.specs.Once.{one-answer}
-use Rattle.indices.specs.declared.Index.{Index}
+use Rattle.due.specs.Due.{Due}
+use Rattle.due.specs.Once.{one-answer}
+use Rattle.due.specs.declared.Index.{Index}
 use Rattle.sheet_text.specs.Sheet.{lines, SheetDue, refused, accepted, PrintDue, fits, short}
 
 pub one-sheet : {s t u : List ℕ} → SheetDue s t → SheetDue s u → t ≡ u

@@ -9,10 +9,10 @@ use Rattle.plain.specs.Digits.{decimal, fraction, percent}
 use Rattle.plain.specs.Plain.{space, line-feed, refused-word, refused-line}
 use Rattle.plain.specs.declared.Printed.{Printed}
 use Rattle.reader.specs.Meaning.{meaning}
-use Rattle.indices.specs.Due.{Due}
-use Rattle.indices.specs.declared.Answer.{Answer}
-use Rattle.indices.specs.declared.Index.{Index}
-use Rattle.indices.specs.declared.Index.the-variants as index
+use Rattle.due.specs.Due.{Due}
+use Rattle.due.specs.declared.Answer.{Answer}
+use Rattle.due.specs.declared.Index.{Index}
+use Rattle.due.specs.declared.Index.the-variants as index
 
 -- "points "
 abbrev pub points-word : List ℕ

@@ -20,9 +20,9 @@ use Rattle.run.specs.declared.Run.{Run}
 use Rattle.reader.specs.Into.{ReadInto, Opening}
 use Rattle.reader.specs.declared.Answer as meant
 use Rattle.reader.specs.declared.Taken.{Taken}
-use Rattle.indices.specs.declared.Answer.{Answer}
-use Rattle.indices.specs.declared.Index.{Index}
-use Rattle.indices.specs.declared.Index.the-variants as index
+use Rattle.due.specs.declared.Answer.{Answer}
+use Rattle.due.specs.declared.Index.{Index}
+use Rattle.due.specs.declared.Index.the-variants as index
 use Rattle.sheet_text.specs.Sheet.{told, lines, SheetDue, refused, accepted, PrintDue, fits, short}
 use Rattle.sheet_text.specs.Grown.{RunText}
 use Rattle.sheet_text.specs.Longest.{fits-lines}

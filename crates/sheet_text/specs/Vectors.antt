@@ -7,9 +7,9 @@ use Rattle.exact.specs.Value.{nought}
 use Rattle.exact.specs.declared.Fraction.{Fraction}
 use Rattle.plain.specs.Digits.{digits, decimal, fraction, percent}
 use Rattle.plain.specs.Plain.{refused-line}
-use Rattle.indices.specs.declared.Answer.{Answer}
-use Rattle.indices.specs.declared.Index.{Index}
-use Rattle.indices.specs.declared.Index.the-variants as index
+use Rattle.due.specs.declared.Answer.{Answer}
+use Rattle.due.specs.declared.Index.{Index}
+use Rattle.due.specs.declared.Index.the-variants as index
 use Rattle.sheet_text.specs.Sheet.{index-line, last-line, lines}
 
 over : ℤ → ℕ → Fraction

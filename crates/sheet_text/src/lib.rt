@@ -6,12 +6,13 @@ ghost use Rattle.plain.specs.Plain.{space, refused-line, printed, buffer-after}
 ghost use Prim.Native.Nat.{_<_, _≤_};
 ghost use lib.ListN.{length, take};
 ghost use Rattle.plain.specs.Grown.{Put};
-ghost use Rattle.sheet_text.specs.Sheet.{name, head-line, index-line, last-line, SheetDue, PrintDue};
+ghost use Rattle.sheet_text.specs.Sheet.{name, head-line, SheetDue, PrintDue};
 ghost use Rattle.run.specs.Run.{lent};
 ghost use Rattle.run.specs.Limits.{verdict};
-ghost use Rattle.sheet_text.specs.Grown.{RunText};
-use indices::Answer;
-use indices::Index;
+ghost use Rattle.sheet_text.specs.Grown.{shown-line, ruled-line, RunText};
+use due::Index;
+use due::Ruled;
+use due::Shown;
 use plain::Printed;
 use plain::put_byte;
 use plain::put_bytes;
@@ -38,25 +39,25 @@ fn put_name(out: &mut [u8; 831], at: usize, which: Index) -> usize
 }
 
 // The index and the percent.
-fn put_figures(out: &mut [u8; 831], at: usize, a: Answer) -> usize
+fn put_figures(out: &mut [u8; 831], at: usize, s: Shown) -> usize
     requires { ⌜ length (now out) ≡ 831 ⌝ }
-    ensures { λ r. ⌜ Put (now (out .entry)) at (fraction (a .index) ++ (space ∷ percent (a .thousandths))) (now (out .exit)) r ⌝ }
+    ensures { λ r. ⌜ Put (now (out .entry)) at (fraction (s .index) ++ (space ∷ percent (s .thousandths))) (now (out .exit)) r ⌝ }
 {
-    let index = a.index;
+    let index = s.index;
     let over = put_fraction(out, at, index);
     let gap = put_byte(out, over, b' ');
-    put_percent(out, gap, a.thousandths)
+    put_percent(out, gap, s.thousandths)
 }
 
-fn put_index(out: &mut [u8; 831], at: usize, which: Index, a: Answer) -> usize
+fn put_index(out: &mut [u8; 831], at: usize, which: Index, s: Shown) -> usize
     requires { ⌜ length (now out) ≡ 831 ⌝ }
-    ensures { λ r. ⌜ Put (now (out .entry)) at (index-line which a) (now (out .exit)) r ⌝ }
+    ensures { λ r. ⌜ Put (now (out .entry)) at (shown-line which s) (now (out .exit)) r ⌝ }
 {
     let named = put_name(out, at, which);
     let gap = put_byte(out, named, b' ');
-    let number = a.number;
+    let number = s.number;
     if number == 0 {
-        let told = put_figures(out, gap, a);
+        let told = put_figures(out, gap, s);
         return put_byte(out, told, b'\n');
     }
     let told = put_number(out, gap, number);
@@ -64,25 +65,24 @@ fn put_index(out: &mut [u8; 831], at: usize, which: Index, a: Answer) -> usize
 }
 
 // The slope and the offset.
-fn put_line(out: &mut [u8; 831], at: usize, a: Answer) -> usize
+fn put_line(out: &mut [u8; 831], at: usize, l: Ruled) -> usize
     requires { ⌜ length (now out) ≡ 831 ⌝ }
-    ensures { λ r. ⌜ Put (now (out .entry)) at (fraction (a .slope) ++ (space ∷ fraction (a .offset))) (now (out .exit)) r ⌝ }
+    ensures { λ r. ⌜ Put (now (out .entry)) at (fraction (l .slope) ++ (space ∷ fraction (l .offset))) (now (out .exit)) r ⌝ }
 {
-    let slope = a.slope;
-    let offset = a.offset;
+    let slope = l.slope;
+    let offset = l.offset;
     let over = put_fraction(out, at, slope);
     let gap = put_byte(out, over, b' ');
     put_fraction(out, gap, offset)
 }
 
-fn put_last(out: &mut [u8; 831], at: usize, a: Answer) -> usize
+fn put_last(out: &mut [u8; 831], at: usize, number: u8, l: Ruled) -> usize
     requires { ⌜ length (now out) ≡ 831 ⌝ }
-    ensures { λ r. ⌜ Put (now (out .entry)) at (last-line a) (now (out .exit)) r ⌝ }
+    ensures { λ r. ⌜ Put (now (out .entry)) at (ruled-line number l) (now (out .exit)) r ⌝ }
 {
     let named = put_bytes(out, at, b"line ");
-    let number = a.number;
     if number == 0 {
-        let told = put_line(out, named, a);
+        let told = put_line(out, named, l);
         return put_byte(out, told, b'\n');
     }
     let told = put_number(out, named, number);
@@ -115,9 +115,9 @@ fn put_run(out: &mut [u8; 831], m: usize, n: usize, x: &[i64; 11], y: &[i64; 220
     let hysteresis = put_index(out, front, Index::Hysteresis, q.hysteresis);
     let repeatability = put_index(out, hysteresis, Index::Repeatability, q.repeatability);
     let lh = put_index(out, repeatability, Index::Lh, q.lh);
-    let a = q.lhr;
-    let lhr = put_index(out, lh, Index::Lhr, a);
-    put_last(out, lhr, a)
+    let last = q.lhr;
+    let lhr = put_index(out, lh, Index::Lhr, last);
+    put_last(out, lhr, last.number, q.line)
 }
 
 // The sheet of any byte string: a run that was read needs no second check.

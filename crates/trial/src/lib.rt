@@ -37,7 +37,7 @@ pub fn print_page(page: &Page, at: usize) {
     }
 }
 
-pub fn put_byte(page: &mut Page, at: &mut usize, b: u8) {
+fn put_byte(page: &mut Page, at: &mut usize, b: u8) {
     let here = *at;
     if here < 8192 {
         page[here] = b;

@@ -1,4 +1,4 @@
-// The numbers of the bench, kept apart by their types (the paper, "Input units, reading units and sum units"). They are worked with here and, but for one product in `indices`, nowhere else: a stranger can
+// The numbers of the bench, kept apart by their types (the paper, "Input units, reading units and sum units"). They are worked with here and, but for comparisons, nowhere else: a stranger can
 // see that no number of one kind is ever added to one of another. Outside, a difference is a whole number whose name says what it counts.
 ghost use mathlib.Core.List.{_∷_, []};
 ghost use mathlib.Core.Path.{_≡_};
@@ -160,6 +160,16 @@ pub fn larger(a: Sum, b: Sum) -> Sum
     let p = a.count;
     let q = b.count;
     if p < q { b } else { a }
+}
+
+// A sum over the denominator q: what stands above the stroke then. An index is made of it where its width is no line's.
+pub fn over_denominator(s: Sum, q: u64) -> i64
+    requires { ⌜ (natAbs (s .count) ≤ 20000000) × (q ≤ 2400000) ⌝ }
+    ensures value { λ r. ⌜ r ≡ s .count *ℤ pos q ⌝ }
+    ensures small { λ r. ⌜ natAbs r ≤ 48000000000000 ⌝ }
+{
+    let p = s.count;
+    p * (q as i64)
 }
 
 // ---- parts

@@ -23,8 +23,11 @@ returns c = λ a. let P = points (c .before .before) in T-not (admits P) (admitt
 best-of-requires : tie.Need-best-of-requires
 best-of-requires c κs = admits-admitted (points (c .before .before)) (yes-T (sym (c .before .is-admitted .ensures) ∙ not-false (c .before .is-admitted .result) (c .if1 .left)))
 
+complete-requires : tie.Need-complete-requires
+complete-requires c κs = search needs
+
 returns-2 : tie.Need-returns-2
-returns-2 c = search needs
+returns-2 c = c .before .best-of .ensures .due (c .complete .result) (c .complete .ensures)
 
 pub best-spec : {M : Type 1} → statement M
-best-spec = tie.close (tie.spec is-admitted-requires returns best-of-requires returns-2)
+best-spec = tie.close (tie.spec is-admitted-requires returns best-of-requires complete-requires returns-2)

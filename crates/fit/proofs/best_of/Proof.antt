@@ -1,6 +1,8 @@
 -- `fit::best_of` meets its contract: each arm's line is the one that the greatest candidate, which the search found, gives.
 use borrow.Author.Needs.{needs}
 use Rattle.band.specs.Candidate.{up, down}
+use Rattle.fit.specs.Plot.{line-plotted}
+use Rattle.fit.specs.PartsLaws.{tells-parts}
 use Rattle.fit.specs.BestLaws.{near, found-is, num-is, chosen, up-best, down-best}
 use Rattle.fit.proofs.best_of.Statement.{statement}
 use Rattle.fit.proofs.best_of.Tie as tie
@@ -47,7 +49,7 @@ returns-2 c =
     let t = c .before .before .before .before .before in
     let a = t .before .pre in
     let b = t .greatest .ensures in
-    (a, up-best (a .proper) (near a) (w .0 .0) (w .0 .1 .0) (w .0 .1 .1 .0) (found-is b (w .1)) _ (num-is b (w .1) a) (c .over-high .ensures))
+    line-plotted (λ f t. (a, up-best (a .proper) (near a) (w .0 .0) (w .0 .1 .0) (w .0 .1 .1 .0) (found-is b (w .1)) _ (num-is b (w .1) a) (tells-parts (c .over-high .ensures) t)))
 
 returns-3 : tie.Need-returns-3
 returns-3 c =
@@ -55,7 +57,7 @@ returns-3 c =
     let t = c .before .before .before .before .before in
     let a = t .before .pre in
     let b = t .greatest .ensures in
-    (a, down-best (a .proper) (near a) (w .0 .0) (w .0 .1 .0) (w .0 .1 .1 .0) (found-is b (w .1)) _ (num-is b (w .1) a) (c .over-low .ensures))
+    line-plotted (λ f t. (a, down-best (a .proper) (near a) (w .0 .0) (w .0 .1 .0) (w .0 .1 .1 .0) (found-is b (w .1)) _ (num-is b (w .1) a) (tells-parts (c .over-low .ensures) t)))
 
 pub best-of-spec : {M : Type 1} → statement M
 best-of-spec = tie.close (tie.spec greatest-requires enum-known-which single-requires enum-known-which-2 over-high-requires enum-known-which-3 over-low-requires returns returns-2 returns-3)

@@ -1,4 +1,4 @@
--- `fit::centred` meets its contract: numbers of bounded size, so every operation fits, and the four may be told.
+-- `fit::centred` meets its contract: numbers of bounded size, so every operation fits, and the four may be laid.
 use mathlib.Core.List.{List, _∷_, []}
 use Prim.Native.Nat.{ℕ}
 use borrow.Author.Needs.{needs}
@@ -24,37 +24,37 @@ four = record { a = lit 2 ⊗ var 0; b = lit 2 ⊗ var 1 ⊕ (var 3 ⊕ var 4); 
 abbrev start : tie.After-struct-told5 → tie.Start
 start c = c .before .before .before .before .before
 
-mul-told : tie.Need-mul-told
-mul-told c = safe (ρ (start c)) β (start c .pre .bounds) (four .a) tt
+mul-lay : tie.Need-mul-lay
+mul-lay c = safe (ρ (start c)) β (start c .pre .bounds) (four .a) tt
 
-mul-told-2 : tie.Need-mul-told-2
-mul-told-2 c = safe (ρ (start c)) β (start c .pre .bounds) (lit 2 ⊗ var 1) tt
+mul-lay-2 : tie.Need-mul-lay-2
+mul-lay-2 c = safe (ρ (start c)) β (start c .pre .bounds) (lit 2 ⊗ var 1) tt
 
-add-told : tie.Need-add-told
-add-told c = safe (ρ (start c)) β (start c .pre .bounds) (var 3 ⊕ var 4) tt
+add-lay : tie.Need-add-lay
+add-lay c = safe (ρ (start c)) β (start c .pre .bounds) (var 3 ⊕ var 4) tt
 
-add-told-2 : tie.Need-add-told-2
-add-told-2 c = safe (ρ (start c)) β (start c .pre .bounds) (four .b) tt
+add-lay-2 : tie.Need-add-lay-2
+add-lay-2 c = safe (ρ (start c)) β (start c .pre .bounds) (four .b) tt
 
-mul-told-3 : tie.Need-mul-told-3
-mul-told-3 c = safe (ρ (start c)) β (start c .pre .bounds) (lit 2 ⊗ var 2) tt
+mul-lay-3 : tie.Need-mul-lay-3
+mul-lay-3 c = safe (ρ (start c)) β (start c .pre .bounds) (lit 2 ⊗ var 2) tt
 
-cast-told : tie.Need-cast-told
-cast-told c = search needs
+cast-lay : tie.Need-cast-lay
+cast-lay c = search needs
 
-mul-told-4 : tie.Need-mul-told-4
-mul-told-4 c = safe (ρ (start c)) β (start c .pre .bounds) (four .q) tt
+mul-lay-4 : tie.Need-mul-lay-4
+mul-lay-4 c = safe (ρ (start c)) β (start c .pre .bounds) (four .q) tt
 
-sub-told : tie.Need-sub-told
-sub-told c = safe (ρ (start c)) β (start c .pre .bounds) (four .w) tt
+sub-lay : tie.Need-sub-lay
+sub-lay c = safe (ρ (start c)) β (start c .pre .bounds) (four .w) tt
 
-told-requires : tie.Need-told-requires
-told-requires c κs =
+lay-requires : tie.Need-lay-requires
+lay-requires c κs =
     let h = start c .pre in
     whole-by (ρ (start c)) β (h .bounds) four tt (positive-mul (positive-mul {a = pos 2} (record { lt = tt }) (h .rise)) (positive-nat (h .unit))) (le-sign (le-trans (h .low) (h .high)))
 
 returns : tie.Need-returns
-returns c = parts-by (ρ (start (c .before))) β (start (c .before) .pre .bounds) four tt (c .told .ensures)
+returns c = parts-by (ρ (start (c .before))) β (start (c .before) .pre .bounds) four tt (c .lay .ensures)
 
 pub centred-spec : {M : Type 1} → statement M
-centred-spec = tie.close (tie.spec mul-told mul-told-2 add-told add-told-2 mul-told-3 cast-told mul-told-4 sub-told told-requires returns)
+centred-spec = tie.close (tie.spec mul-lay mul-lay-2 add-lay add-lay-2 mul-lay-3 cast-lay mul-lay-4 sub-lay lay-requires returns)

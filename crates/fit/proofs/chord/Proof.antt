@@ -1,4 +1,4 @@
--- `fit::chord` meets its contract: numbers of bounded size, so every operation fits, and the four may be told.
+-- `fit::chord` meets its contract: numbers of bounded size, so every operation fits, and the four may be laid.
 use mathlib.Core.List.{List, _∷_, []}
 use Prim.Native.Nat.{ℕ}
 use borrow.Author.Needs.{needs}
@@ -24,31 +24,31 @@ four = record { a = lit 2 ⊗ var 0; b = lit 2 ⊗ var 1 ⊖ var 3; q = lit 2 �
 abbrev start : tie.After-struct-told3 → tie.Start
 start c = c .before .before .before
 
-mul-told : tie.Need-mul-told
-mul-told c = safe (ρ (start c)) β (start c .pre .0) (four .a) tt
+mul-lay : tie.Need-mul-lay
+mul-lay c = safe (ρ (start c)) β (start c .pre .0) (four .a) tt
 
-mul-told-2 : tie.Need-mul-told-2
-mul-told-2 c = safe (ρ (start c)) β (start c .pre .0) (lit 2 ⊗ var 1) tt
+mul-lay-2 : tie.Need-mul-lay-2
+mul-lay-2 c = safe (ρ (start c)) β (start c .pre .0) (lit 2 ⊗ var 1) tt
 
-sub-told : tie.Need-sub-told
-sub-told c = safe (ρ (start c)) β (start c .pre .0) (four .b) tt
+sub-lay : tie.Need-sub-lay
+sub-lay c = safe (ρ (start c)) β (start c .pre .0) (four .b) tt
 
-mul-told-3 : tie.Need-mul-told-3
-mul-told-3 c = safe (ρ (start c)) β (start c .pre .0) (lit 2 ⊗ var 2) tt
+mul-lay-3 : tie.Need-mul-lay-3
+mul-lay-3 c = safe (ρ (start c)) β (start c .pre .0) (lit 2 ⊗ var 2) tt
 
-cast-told : tie.Need-cast-told
-cast-told c = search needs
+cast-lay : tie.Need-cast-lay
+cast-lay c = search needs
 
-mul-told-4 : tie.Need-mul-told-4
-mul-told-4 c = safe (ρ (start c)) β (start c .pre .0) (four .q) tt
+mul-lay-4 : tie.Need-mul-lay-4
+mul-lay-4 c = safe (ρ (start c)) β (start c .pre .0) (four .q) tt
 
-told-requires : tie.Need-told-requires
-told-requires c κs =
+lay-requires : tie.Need-lay-requires
+lay-requires c κs =
     let h = start c .pre .1 in
     whole-by (ρ (start c)) β (start c .pre .0) four tt (positive-mul (positive-mul {a = pos 2} (record { lt = tt }) (h .rise)) (positive-nat (h .unit))) (h .sign)
 
 returns : tie.Need-returns
-returns c = parts-by (ρ (start (c .before))) β (start (c .before) .pre .0) four tt (c .told .ensures)
+returns c = parts-by (ρ (start (c .before))) β (start (c .before) .pre .0) four tt (c .lay .ensures)
 
 pub chord-spec : {M : Type 1} → statement M
-chord-spec = tie.close (tie.spec mul-told mul-told-2 sub-told mul-told-3 cast-told mul-told-4 told-requires returns)
+chord-spec = tie.close (tie.spec mul-lay mul-lay-2 sub-lay mul-lay-3 cast-lay mul-lay-4 lay-requires returns)

@@ -1,4 +1,4 @@
--- `fit::midway` meets its contract: numbers of bounded size, so every operation fits, and the four may be told.
+-- `fit::midway` meets its contract: numbers of bounded size, so every operation fits, and the four may be laid.
 use mathlib.Core.List.{List, _∷_, []}
 use Prim.Native.Nat.{ℕ}
 use borrow.Author.Needs.{needs}
@@ -24,31 +24,31 @@ four = record { a = var 0 ⊕ var 3; b = var 1 ⊕ var 4; q = lit 2 ⊗ var 2 �
 abbrev start : tie.After-struct-told5 → tie.Start
 start c = c .before .before .before .before .before
 
-add-told : tie.Need-add-told
-add-told c = safe (ρ (start c)) β (start c .pre .0) (four .a) tt
+add-lay : tie.Need-add-lay
+add-lay c = safe (ρ (start c)) β (start c .pre .0) (four .a) tt
 
-add-told-2 : tie.Need-add-told-2
-add-told-2 c = safe (ρ (start c)) β (start c .pre .0) (four .b) tt
+add-lay-2 : tie.Need-add-lay-2
+add-lay-2 c = safe (ρ (start c)) β (start c .pre .0) (four .b) tt
 
-mul-told : tie.Need-mul-told
-mul-told c = safe (ρ (start c)) β (start c .pre .0) (lit 2 ⊗ var 2) tt
+mul-lay : tie.Need-mul-lay
+mul-lay c = safe (ρ (start c)) β (start c .pre .0) (lit 2 ⊗ var 2) tt
 
-cast-told : tie.Need-cast-told
-cast-told c = search needs
+cast-lay : tie.Need-cast-lay
+cast-lay c = search needs
 
-mul-told-2 : tie.Need-mul-told-2
-mul-told-2 c = safe (ρ (start c)) β (start c .pre .0) (four .q) tt
+mul-lay-2 : tie.Need-mul-lay-2
+mul-lay-2 c = safe (ρ (start c)) β (start c .pre .0) (four .q) tt
 
-mul-told-3 : tie.Need-mul-told-3
-mul-told-3 c = safe (ρ (start c)) β (start c .pre .0) (four .w) tt
+mul-lay-3 : tie.Need-mul-lay-3
+mul-lay-3 c = safe (ρ (start c)) β (start c .pre .0) (four .w) tt
 
-told-requires : tie.Need-told-requires
-told-requires c κs =
+lay-requires : tie.Need-lay-requires
+lay-requires c κs =
     let h = start c .pre .1 in
     whole-by (ρ (start c)) β (start c .pre .0) four tt (positive-mul (positive-mul {a = pos 2} (record { lt = tt }) (h .rise)) (positive-nat (h .unit))) (nonneg-mul (h .sign) (weaken (h .rise)))
 
 returns : tie.Need-returns
-returns c = parts-by (ρ (start (c .before))) β (start (c .before) .pre .0) four tt (c .told .ensures)
+returns c = parts-by (ρ (start (c .before))) β (start (c .before) .pre .0) four tt (c .lay .ensures)
 
 pub midway-spec : {M : Type 1} → statement M
-midway-spec = tie.close (tie.spec add-told add-told-2 mul-told cast-told mul-told-2 mul-told-3 told-requires returns)
+midway-spec = tie.close (tie.spec add-lay add-lay-2 mul-lay cast-lay mul-lay-2 mul-lay-3 lay-requires returns)

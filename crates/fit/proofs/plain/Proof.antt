@@ -1,4 +1,4 @@
--- `fit::plain` meets its contract: numbers of bounded size, so every operation fits, and the four may be told.
+-- `fit::plain` meets its contract: numbers of bounded size, so every operation fits, and the four may be laid.
 use mathlib.Core.Path.{_≡_, sym, ap₂, _∙_, subst}
 use mathlib.Core.List.{List, _∷_, []}
 use Prim.Native.Nat.{ℕ, _≤_}
@@ -9,7 +9,7 @@ use Rattle.whole.specs.Poly.{var, lit, _⊖_, _⊗_}
 use Rattle.whole.specs.Sign.{positive-mul, positive-nat, le-trans}
 use Rattle.whole.specs.Machine.{Bounds, safe, ends, sized}
 use Rattle.band.specs.Band.{most-d}
-use Rattle.fit.specs.Parts.{FitParts}
+use Rattle.fit.specs.Parts.{CourseParts}
 use Rattle.whole.specs.Greater.{greater, greater-left, greater-size}
 use Rattle.fit.specs.Ends.{most-a, most-b, most-gap, most-e}
 use Rattle.fit.specs.PartsLaws.{Written, whole-by, parts-by}
@@ -22,11 +22,11 @@ abbrev ρ : tie.Start → List ℤ
 abbrev β : List ℕ
 β = most-a ∷ most-b ∷ most-gap ∷ most-e ∷ most-e ∷ most-d ∷ []
 
-cast-told : tie.Need-cast-told
-cast-told c = search needs
+cast-lay : tie.Need-cast-lay
+cast-lay c = search needs
 
-mul-told : tie.Need-mul-told
-mul-told c = let s = c .before .before in safe (ρ s) β (s .pre .bounds) (var 2 ⊗ var 5) tt
+mul-lay : tie.Need-mul-lay
+mul-lay c = let s = c .before .before in safe (ρ s) β (s .pre .bounds) (var 2 ⊗ var 5) tt
 
 sub-larger : tie.Need-sub-larger
 sub-larger c = let s = c .before .before in safe (ρ s) β (s .pre .bounds) (lit 0 ⊖ var 3) tt
@@ -60,8 +60,8 @@ bounds c =
     let w : natAbs (wide s) ≤ most-e = greater-size (s .args .r .hi) (pos 0 -ℤ s .args .r .lo) most-e (b .1 .1 .1 .1 .0) (sized (ρ s) β b (lit 0 ⊖ var 3) most-e tt) in
     (b .0, (b .1 .0, (b .1 .1 .0, (b .1 .1 .1 .1 .1 .0, (subst (λ (z : ℤ). natAbs z ≤ most-e) (sym (found c)) w, tt)))))
 
-told-requires : tie.Need-told-requires
-told-requires c κs =
+lay-requires : tie.Need-lay-requires
+lay-requires c κs =
     let e = c .before .before in
     let h = start e .pre in
     whole-by (σ e) β′ (bounds e) four tt (positive-mul (h .rise) (positive-nat (h .unit)))
@@ -71,8 +71,8 @@ returns : tie.Need-returns
 returns c =
     let e = c .before .before .before in
     let s = start e in
-    subst (λ (w : ℤ). FitParts (s .args .e .a) (s .args .e .b) (s .args .e .s *ℤ pos (s .args .d)) w (c .told .result)) (found e)
-    (parts-by (σ e) β′ (bounds e) four tt (c .told .ensures))
+    subst (λ (w : ℤ). CourseParts (c .lay .result) (s .args .e .a) (s .args .e .b) (s .args .e .s *ℤ pos (s .args .d)) w) (found e)
+    (parts-by (σ e) β′ (bounds e) four tt (c .lay .ensures))
 
 pub plain-spec : {M : Type 1} → statement M
-plain-spec = tie.close (tie.spec cast-told mul-told sub-larger larger-requires told-requires returns)
+plain-spec = tie.close (tie.spec cast-lay mul-lay sub-larger larger-requires lay-requires returns)

@@ -23,8 +23,11 @@ returns c = drawn-no (points (c .before .before)) (sym (c .before .is-drawn .ens
 shifted-of-requires : tie.Need-shifted-of-requires
 shifted-of-requires c κs = drawn c
 
+told-requires : tie.Need-told-requires
+told-requires c κs = search needs
+
 returns-2 : tie.Need-returns-2
-returns-2 c = let d = drawn (c .before) in (d .0, d .1, c .shifted-of .ensures)
+returns-2 c = let t = c .before in let d = drawn (t .before) in (d .0, d .1, t .shifted-of .ensures .due (c .told .result) (c .told .ensures))
 
 pub shifted-spec : {M : Type 1} → statement M
-shifted-spec = tie.close (tie.spec is-drawn-requires returns shifted-of-requires returns-2)
+shifted-spec = tie.close (tie.spec is-drawn-requires returns shifted-of-requires told-requires returns-2)

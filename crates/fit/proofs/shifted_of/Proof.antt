@@ -7,6 +7,7 @@ use lib.ListN.{getD}
 use Rattle.fit.specs.Ends.{Ready}
 use Rattle.fit.specs.EndsLaws.{ready}
 use Rattle.fit.specs.ChordLaws.{asked}
+use Rattle.fit.specs.PartsLaws.{tells-parts}
 use Rattle.fit.specs.Due.{shifted-due}
 use Rattle.fit.proofs.shifted_of.Statement.{statement}
 use Rattle.fit.proofs.shifted_of.Tie as tie
@@ -34,7 +35,7 @@ returns : tie.Need-returns
 returns c =
     let s = c .before in
     let h = s .before .before .pre in
-    shifted-due (h .0) (h .1) (s .before .through .ensures) (s .spread-of .ensures) (numbers s) (c .centred .ensures)
+    record { due = λ f t. shifted-due (h .0) (h .1) (s .before .through .ensures) (s .spread-of .ensures) (numbers s) (tells-parts (c .centred .ensures) t) }
 
 pub shifted-of-spec : {M : Type 1} → statement M
 shifted-of-spec = tie.close (tie.spec sub-through through-requires spread-of-requires centred-requires returns)

@@ -11,8 +11,10 @@ use Rattle.band.specs.Band.{lent}
 use Rattle.search.specs.Twin.{apart}
 use Rattle.search.specs.SearchSize.{num-size}
 use Rattle.search.specs.TwinLaws.{twin-other, twin-same, alone}
-use Rattle.fit.specs.Parts.{WideParts}
+use Rattle.fit.specs.Parts.{ReachParts}
 use Rattle.fit.specs.Ends.{most-e}
+use Rattle.fit.specs.Plot.{line-plotted, several-plotted}
+use Rattle.fit.specs.PartsLaws.{tells-parts, tells-wide}
 use Rattle.fit.specs.BestLaws.{near, found-is, num-is, pair-best, greatest-twin, several-best}
 use Rattle.fit.proofs.single.Statement.{statement}
 use Rattle.fit.proofs.single.Tie as tie
@@ -52,7 +54,8 @@ returns c =
     let m = s .args .m in
     let i = s .args .i in
     let none : FirstNot m (apart (points s) i) m = subst (FirstNot m (apart (points s) i)) (c .before .before .if1 .taken) (t .twin .ensures) in
-    (s .pre .0, several-best (s .pre .0) i (greatest s) (alone (s .pre .1) i (s .pre .2) none) (subst (λ (z : ℤ). WideParts z (s .args .d) (c .only .result)) (width s) (c .only .ensures)) (size s))
+    let p = subst (λ (z : ℤ). ReachParts z (s .args .d) (c .only .result)) (width s) (c .only .ensures) in
+    several-plotted (λ k t. (s .pre .0, several-best (s .pre .0) i (greatest s) (alone (s .pre .1) i (s .pre .2) none) (tells-wide p t) (size s)))
 
 middles-requires : tie.Need-middles-requires
 middles-requires c κs = (c .before .before .before .pre .0, c .if2 .taken, other (c .before))
@@ -66,7 +69,7 @@ returns-2 c =
     let t = e .before .before in
     let s = t .before in
     let i = s .args .i in
-    (s .pre .0, pair-best (s .pre .0 .proper) (near (s .pre .0)) i (t .twin .result) (e .if2 .taken) (other (e .before)) (greatest s) (sym (twin-same (points s) i (t .twin .ensures) (other (e .before)))) (c .middles .ensures))
+    line-plotted (λ f u. (s .pre .0, pair-best (s .pre .0 .proper) (near (s .pre .0)) i (t .twin .result) (e .if2 .taken) (other (e .before)) (greatest s) (sym (twin-same (points s) i (t .twin .ensures) (other (e .before)))) (tells-parts (c .middles .ensures) u)))
 
 returns-3 : tie.Need-returns-3
 returns-3 c =
@@ -75,7 +78,7 @@ returns-3 c =
     let s = t .before in
     let i = s .args .i in
     let q = twin-same (points s) i (t .twin .ensures) (other (e .before)) in
-    (s .pre .0, pair-best (s .pre .0 .proper) (near (s .pre .0)) (t .twin .result) i (below e) (greatest s .fits) (greatest-twin q (other (e .before)) (greatest s)) q (c .middles2 .ensures))
+    line-plotted (λ f u. (s .pre .0, pair-best (s .pre .0 .proper) (near (s .pre .0)) (t .twin .result) i (below e) (greatest s .fits) (greatest-twin q (other (e .before)) (greatest s)) q (tells-parts (c .middles2 .ensures) u)))
 
 pub single-spec : {M : Type 1} → statement M
 single-spec = tie.close (tie.spec twin-requires only-requires returns middles-requires middles-requires-2 returns-2 returns-3)

@@ -1,11 +1,11 @@
 -- `indices::index_of` meets its contract: the run is the one that its counts stand for.
-use mathlib.Core.Path.{_≡_, ap₂, subst}
+use mathlib.Core.Path.{ap₂, subst}
 use mathlib.Core.List.{List}
 use borrow.Author.Needs.{needs}
 use Rattle.units.specs.declared.Input.{Input}
 use Rattle.units.specs.declared.Reading.{Reading}
 use Rattle.run.specs.declared.Run.{Run}
-use Rattle.indices.specs.Due.{Due}
+use Rattle.due.specs.Due.{Due}
 use Rattle.indices.proofs.index_of.Statement.{statement}
 use Rattle.indices.proofs.index_of.Tie as tie
 

@@ -1,47 +1,34 @@
--- `indices::nine_over` meets its contract: the sums and means that are filled in are those of the run.
+-- `indices::nine_over` meets its contract: the sums, means and limits that are filled in are those of the run.
 use mathlib.Core.Path.{refl}
-use Prim.Native.Nat.{ℕ, _<_, _≤_}
-use native.Mathlib.Omega.{arith}
-use Rattle.run.specs.Run.{lent, group}
-use Rattle.run.specs.Checked.{Checked, checked}
+use Rattle.run.specs.Run.{lent}
+use Rattle.run.specs.Checked.{checked}
 use Rattle.run.specs.declared.Run.{Run}
-use Rattle.groups.specs.Limit.{Grouped, grouped, grouped-lent}
-use Rattle.indices.specs.Basis.{sums-addable, means-filled}
+use Rattle.groups.specs.Limit.{grouped, grouped-lent}
 use Rattle.indices.proofs.nine_over.Statement.{statement}
 use Rattle.indices.proofs.nine_over.Tie as tie
 
 abbrev run : tie.Start → Run
 run s = lent (s .args .m) (s .args .n) (s .args .x .now) (s .args .y .now)
 
-fine : (s : tie.Start) → Checked (run s)
-fine s = checked (run s) (s .pre)
+summed-requires : tie.Need-summed-requires
+summed-requires c κs = (c .before .before .before .pre, refl, refl, refl)
 
-groups : (s : tie.Start) (t : ℕ) → t < 2 → (i : ℕ) → i < s .args .m → Grouped (group (s .args .n) (s .args .y .now)) t i
-groups s t h i l = let a = s .args in grouped-lent (a .m) (a .n) (a .x .now) (a .y .now) (grouped (fine s) h l)
-
-sums-of-requires : tie.Need-sums-of-requires
-sums-of-requires c κs = let s = c .before in (fine s .m-most, groups s 0 (omega arith), refl)
-
-sums-of-requires-2 : tie.Need-sums-of-requires-2
-sums-of-requires-2 c κs = let s = c .before .before .before in (fine s .m-most, groups s 1 (omega arith), refl)
-
-means-of-requires : tie.Need-means-of-requires
-means-of-requires c κs =
-    let k = c .before .before .before in
-    let l = k .before .before in
-    let a = sums-addable (fine (l .before .before)) (l .sums-of .ensures, k .sums-of2 .ensures) in
-    (a .0, a .1, refl)
+both-limits-requires : tie.Need-both-limits-requires
+both-limits-requires c κs =
+    let s = c .before .before .before .before .before .before in
+    let a = s .args in
+    let k = checked (run s) (s .pre) in
+    (k .m-most, (λ t i h l. grouped-lent (a .m) (a .n) (a .x .now) (a .y .now) (grouped k h l)), refl, refl)
 
 nine-in-requires : tie.Need-nine-in-requires
 nine-in-requires c κs =
-    let t = c .before .before .before in
-    let k = t .before .before .before .before in
-    let l = k .before .before in
-    let s = l .before .before in
-    (record { fine = s .pre; means = means-filled (s .args .m) (s .args .n) (s .args .x .now) (s .args .y .now) (l .sums-of .ensures, k .sums-of2 .ensures) (t .means-of .ensures) }, (l .sums-of .ensures, k .sums-of2 .ensures))
+    let b = c .before .before .before .before .before in
+    let f = b .before .before .before in
+    let s = f .before .before .before .before in
+    (record { fine = s .pre; means = f .summed .ensures .means }, f .summed .ensures .sides, b .both-limits .ensures)
 
 returns : tie.Need-returns
 returns c = c .nine-in .ensures
 
 pub nine-over-spec : {M : Type 1} → statement M
-nine-over-spec = tie.close (tie.spec sums-of-requires sums-of-requires-2 means-of-requires nine-in-requires returns)
+nine-over-spec = tie.close (tie.spec summed-requires both-limits-requires nine-in-requires returns)

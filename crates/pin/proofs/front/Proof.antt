@@ -20,8 +20,11 @@ returns c = let t = c .before in drawn-no (P (t .before)) (sym (t .is-drawn .ens
 front-of-requires : tie.Need-front-of-requires
 front-of-requires c κs = let t = c .before in drawn-yes (P (t .before)) (sym (t .is-drawn .ensures) ∙ not-false (t .is-drawn .result) (c .if1 .left))
 
+complete-requires : tie.Need-complete-requires
+complete-requires c κs = search needs
+
 returns-2 : tie.Need-returns-2
-returns-2 c = c .front-of .ensures
+returns-2 c = c .before .front-of .ensures .due (c .complete .result) (c .complete .ensures)
 
 pub front-spec : {M : Type 1} → statement M
-front-spec = tie.close (tie.spec is-drawn-requires returns front-of-requires returns-2)
+front-spec = tie.close (tie.spec is-drawn-requires returns front-of-requires complete-requires returns-2)

@@ -9,6 +9,7 @@ use Rattle.units.specs.declared.Input.{Input}
 use Rattle.units.specs.declared.Part.{Part}
 use Rattle.band.specs.Line.{Points}
 use Rattle.band.specs.Band.{lent, most-x, most-v}
+use Rattle.fit.specs.Plot.{PlotDue, plot-due}
 use Rattle.pin.specs.Pair.{Beyond}
 use Rattle.pin.specs.PairLaws.{beyond-first}
 use Rattle.pin.specs.Search.{PinDue}
@@ -48,8 +49,8 @@ returns c =
     let i = l .before in
     let s = i .before in
     let r = c .pinned .result in
-    front-due (s .pre .0) (s .pre .1) r
-    (subst (λ (u : Part). PinDue (P s) (record { x = first (P s) .x; v = u }) r) (l .part-at .ensures) (subst (λ (v : Input). PinDue (P s) (record { x = v; v = l .part-at .result }) r) (i .input-at .ensures) (c .pinned .ensures)))
+    plot-due (front-due (s .pre .0) (s .pre .1))
+    (subst (λ (u : Part). PlotDue (PinDue (P s) (record { x = first (P s) .x; v = u })) r) (l .part-at .ensures) (subst (λ (v : Input). PlotDue (PinDue (P s) (record { x = v; v = l .part-at .result })) r) (i .input-at .ensures) (c .pinned .ensures)))
 
 pub front-of-spec : {M : Type 1} → statement M
 front-of-spec = tie.close (tie.spec input-at-requires part-at-requires pinned-requires returns)

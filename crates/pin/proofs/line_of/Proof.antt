@@ -58,20 +58,20 @@ offset-of-requires c κs = let s = c .before .before in let h = s .pre .1 .fits 
 offset-of-requires-2 : tie.Need-offset-of-requires-2
 offset-of-requires-2 c κs = let s = c .before .before .before in let h = s .pre .1 .fits .j-fits in (place-fits (s .pre .0) h, offset-asked (s .pre .0) h)
 
-add-told : tie.Need-add-told
-add-told c = safe (ρ c) β (bounds c) (four .a) tt
+add-lay : tie.Need-add-lay
+add-lay c = safe (ρ c) β (bounds c) (four .a) tt
 
-add-told-2 : tie.Need-add-told-2
-add-told-2 c = safe (ρ c) β (bounds c) (four .b) tt
+add-lay-2 : tie.Need-add-lay-2
+add-lay-2 c = safe (ρ c) β (bounds c) (four .b) tt
 
-cast-told : tie.Need-cast-told
-cast-told c = search needs
+cast-lay : tie.Need-cast-lay
+cast-lay c = search needs
 
-mul-told : tie.Need-mul-told
-mul-told c = let r = c .before .before in safe (ρ r) β (bounds r) (four .q) tt
+mul-lay : tie.Need-mul-lay
+mul-lay c = let r = c .before .before in safe (ρ r) β (bounds r) (four .q) tt
 
-told-requires : tie.Need-told-requires
-told-requires c κs =
+lay-requires : tie.Need-lay-requires
+lay-requires c κs =
     let r = c .before .before .before in
     let t = start r .pre .1 in
     let e = t .den-is in
@@ -87,7 +87,7 @@ returns c =
     (ap₂ _+ℤ_ (r .before .before .before .rise-of .ensures .0) (r .before .before .rise-of2 .ensures .0))
     (ap₂ _+ℤ_ (r .before .offset-of .ensures .0) (r .offset-of2 .ensures .0) ∙ offset (P (start r)) (p .x .count) (p .v .count) (a .t .i) (a .t .j) ∙ ap (λ (z : ℤ). p .v .count *ℤ z -ℤ (rise (P (start r)) (p .v .count) (a .t .i) +ℤ rise (P (start r)) (p .v .count) (a .t .j)) *ℤ p .x .count) (sym (t .den-is)))
     refl refl
-    (parts-by (ρ r) β (bounds r) four tt (c .told .ensures))
+    (parts-by (ρ r) β (bounds r) four tt (c .lay .ensures))
 
 pub line-of-spec : {M : Type 1} → statement M
 line-of-spec =
@@ -97,9 +97,9 @@ line-of-spec =
     rise-of-requires-2
     offset-of-requires
     offset-of-requires-2
-    add-told
-    add-told-2
-    cast-told
-    mul-told
-    told-requires
+    add-lay
+    add-lay-2
+    cast-lay
+    mul-lay
+    lay-requires
     returns)

@@ -8,7 +8,9 @@ use lib.Signed.{ltZ}
 use Rattle.whole.specs.Poly.{var, lit, _⊗_}
 use Rattle.whole.specs.Machine.{Bounds, safe, ends, stays}
 use Rattle.fit.specs.Ends.{most-e}
-use Rattle.fit.specs.Parts.{WideParts}
+use Rattle.fit.specs.Parts.{ReachParts}
+use Rattle.fit.specs.PartsLaws.{tells-parts, tells-wide}
+use Rattle.fit.specs.Plot.{line-plotted, several-plotted}
 use Rattle.pin.specs.Search.{most-num, most-den}
 use Rattle.pin.specs.Due.{line-due, several-due}
 use Rattle.pin.proofs.pinned.Statement.{statement}
@@ -60,8 +62,8 @@ returns c =
     let e = c .before .before in
     let o = e .before .before .before in
     let h = start o .pre in
-    let d = start o .args .d in
-    several-due (h .0 .0) (h .1) (h .0 .1) (o .before .greatest .ensures) (o .own-distance .ensures) (test e ∙ c .before .if1 .taken) (subst (λ (z : ℤ). WideParts z d (c .only .result)) (ends (ρ o) β (bounds o) (lit 2 ⊗ var 0) tt) (c .only .ensures))
+    let p = subst (λ (z : ℤ). ReachParts z (start o .args .d) (c .only .result)) (ends (ρ o) β (bounds o) (lit 2 ⊗ var 0) tt) (c .only .ensures) in
+    several-plotted (λ k t. several-due (h .0 .0) (h .1) (h .0 .1) (o .before .greatest .ensures) (o .own-distance .ensures) (test e ∙ c .before .if1 .taken) (tells-wide p t))
 
 line-of-requires : tie.Need-line-of-requires
 line-of-requires c κs = let t = c .before .before .before .before .before in (t .before .before .pre .0 .0, t .greatest .ensures .paired)
@@ -71,7 +73,7 @@ returns-2 c =
     let e = c .before .before in
     let o = e .before .before .before in
     let h = start o .pre in
-    line-due (h .0 .0) (h .1) (h .0 .1) (o .before .greatest .ensures) (o .own-distance .ensures) (test e ∙ c .before .if1 .left) (c .line-of .ensures)
+    line-plotted (λ f t. line-due (h .0 .0) (h .1) (h .0 .1) (o .before .greatest .ensures) (o .own-distance .ensures) (test e ∙ c .before .if1 .left) (tells-parts (c .line-of .ensures) t))
 
 pub pinned-spec : {M : Type 1} → statement M
 pinned-spec = tie.close (tie.spec start-of-requires greatest-requires own-distance-requires exceeds-requires mul-only only-requires returns line-of-requires returns-2)

@@ -44,8 +44,11 @@ zero-of-requires c κs =
     let d = drawn (c .before .before .before) in
     (d .0, d .1, beyond-first (d .0 .proper) (ltZ-no (no-T (test (c .before) ∙ c .if2 .left))))
 
+complete-requires : tie.Need-complete-requires
+complete-requires c κs = search needs
+
 returns-3 : tie.Need-returns-3
-returns-3 c = c .zero-of .ensures
+returns-3 c = c .before .zero-of .ensures .due (c .complete .result) (c .complete .ensures)
 
 pub zero-spec : {M : Type 1} → statement M
-zero-spec = tie.close (tie.spec is-drawn-requires returns input-at-requires is-below-requires returns-2 zero-of-requires returns-3)
+zero-spec = tie.close (tie.spec is-drawn-requires returns input-at-requires is-below-requires returns-2 zero-of-requires complete-requires returns-3)

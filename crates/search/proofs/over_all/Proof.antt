@@ -3,7 +3,8 @@ use mathlib.Core.Path.{_≡_, subst}
 use Prim.Native.Nat.{ℕ, _-_, _≤_}
 use native.Mathlib.Omega.{arith}
 use Rattle.band.specs.Band.{lent}
-use Rattle.search.specs.Over.{Starts, starts-none, starts-more, most}
+use Rattle.search.specs.Over.{Starts}
+use Rattle.search.specs.OverLaws.{starts-none, starts-more, most}
 use Rattle.search.proofs.over_all.Statement.{statement}
 use Rattle.search.proofs.over_all.Tie as tie
 

@@ -3,7 +3,8 @@ use mathlib.Core.Path.{_≡_, subst}
 use Prim.Native.Nat.{ℕ, _-_, _<_, _≤_}
 use native.Mathlib.Omega.{arith}
 use Rattle.band.specs.Band.{lent}
-use Rattle.search.specs.Over.{Ends, ends-none, ends-more}
+use Rattle.search.specs.Over.{Ends}
+use Rattle.search.specs.OverLaws.{ends-none, ends-more}
 use Rattle.search.proofs.over_ends.Statement.{statement}
 use Rattle.search.proofs.over_ends.Tie as tie
 

@@ -3,7 +3,8 @@ use mathlib.Core.Path.{_≡_, subst}
 use Prim.Native.Nat.{ℕ, _-_, _≤_}
 use native.Mathlib.Omega.{arith}
 use Rattle.band.specs.Band.{lent}
-use Rattle.search.specs.Over.{Singles, both-sizes, singles-none, singles-more}
+use Rattle.search.specs.Over.{Singles}
+use Rattle.search.specs.OverLaws.{both-sizes, singles-none, singles-more}
 use Rattle.search.proofs.over_inputs.Statement.{statement}
 use Rattle.search.proofs.over_inputs.Tie as tie
 

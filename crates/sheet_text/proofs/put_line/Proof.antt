@@ -2,24 +2,16 @@ use Rattle.plain.specs.GrownLaws.{put-two, put-is}
 use borrow.Author.Needs.{needs}
 use Rattle.sheet_text.proofs.put_line.Statement.{statement}
 use Rattle.sheet_text.proofs.put_line.Tie as tie
-use Rattle.sheet_text.proofs.put_line.Reads as reads
-use Rattle.sheet_text.proofs.put_line.Lts as lts
-use Rattle.plain.proofs.put_byte.Reads as put-byte-reads
-use Rattle.plain.proofs.put_fraction.Reads as put-fraction-reads
 
--- src/lib.rt:72:9
 put-fraction-requires : tie.Need-put-fraction-requires
 put-fraction-requires c κs = search needs
 
--- src/lib.rt:73:9
 put-byte-requires : tie.Need-put-byte-requires
 put-byte-requires c κs = search needs
 
--- src/lib.rt:74:5
 put-fraction-requires-2 : tie.Need-put-fraction-requires-2
 put-fraction-requires-2 c κs = search needs
 
--- src/lib.rt:66:1
 returns : tie.Need-returns
 returns c = put-two (c .before .before .before .before .put-fraction .ensures) (put-two (c .before .before .put-byte .ensures) (c .put-fraction2 .ensures))
 

@@ -1,0 +1,131 @@
+-- The answer that is due for an index of a run (the paper, "What can be answered" and "The formulas in whole numbers"; request C-11). Definitions only.
+use mathlib.Core.Path.{_≡_}
+use mathlib.Core.Bool.{Bool, true, false}
+use Prim.Native.Nat.{ℕ, _*_, _-_, _<_}
+use lib.Dec.{T}
+use lib.IntN.{pos, natAbs, _-ℤ_}
+use lib.Signed.{_<ℤ_}
+use Rattle.exact.specs.Value.{Made, nought}
+use Rattle.exact.specs.Rounding.{Nearest}
+use Rattle.exact.specs.declared.Fraction.{Fraction}
+use Rattle.run.specs.Run.{input}
+use Rattle.run.specs.Limits.{verdict}
+use Rattle.run.specs.declared.Run.{Run}
+use Rattle.groups.specs.Sums.{limit}
+use Rattle.band.specs.Line.{Line, Points, Within, Largest, All, Parallel, Zero, Front, Least, Single, Several, Terminal}
+use Rattle.bands.specs.Through.{means, strokes, limit-points, LargestOf, swing, scatter}
+use Rattle.due.specs.declared.Answer.{Answer}
+use Rattle.due.specs.declared.Index.{Index}
+use Rattle.due.specs.declared.Index.the-variants as index
+
+-- ---- lines and widths
+-- L is the one line of the family F whose largest deviation is least, and w/z is that deviation
+pub record Best (F : Line → Type 0) (P : Points) (L : Line) (w z : ℕ) : Type 0 where
+  pub member : F L
+  pub reached : Within P L w z
+  pub least : Least F P w z
+  pub single : Single F P w z
+
+-- L is the independent line
+pub record Independent (r : Run) (L : Line) : Type 0 where
+  pub w : ℕ
+  pub z : ℕ
+  pub best : Best All (means r) L w z
+
+-- an index's line L and its width w/z. Hysteresis and repeatability have the independent line (4.3 note 1)
+abbrev pub Fits : Index → Run → Line → (w z : ℕ) → Type 0
+Fits index.Terminal r L w z = Terminal (means r) L × Largest (means r) L w z
+Fits index.Shifted r L w z = (T : Line) → Terminal (means r) T → Best (Parallel T) (means r) L w z
+Fits index.Independent r L w z = Best All (means r) L w z
+Fits index.Zero r L w z = Best (Zero (means r)) (means r) L w z
+Fits index.Front r L w z = Best (Front (means r)) (means r) L w z
+Fits index.Hysteresis r L w z = Independent r L × LargestOf (r .m) (swing r) w × (z ≡ r .n)
+Fits index.Repeatability r L w z = Independent r L × LargestOf (r .m) (scatter (limit r)) w × (z ≡ r .n)
+Fits index.Lh r L w z = Best All (strokes r) L w z
+Fits index.Lhr r L w z = Best All (limit-points r (limit r)) L w z
+
+-- several lines of the family F reach its least width w/z
+pub record Many (F : Line → Type 0) (P : Points) (w z : ℕ) : Type 0 where
+  pub least : Least F P w z
+  pub several : Several F P w z
+
+-- several lines can reach it where an input has two values, and through the origin where an input is zero
+abbrev pub SeveralFit : Index → Run → (w z : ℕ) → Type 0
+SeveralFit index.Terminal r w z = ⊥
+SeveralFit index.Shifted r w z = ⊥
+SeveralFit index.Independent r w z = ⊥
+SeveralFit index.Zero r w z = Many (Zero (means r)) (means r) w z
+SeveralFit index.Front r w z = ⊥
+SeveralFit index.Hysteresis r w z = ⊥
+SeveralFit index.Repeatability r w z = ⊥
+SeveralFit index.Lh r w z = Many All (strokes r) w z
+SeveralFit index.Lhr r w z = Many All (limit-points r (limit r)) w z
+
+-- ---- answers
+-- under every refusal for which nothing else stands all fractions are 0/1 and the thousandths 0
+abbrev pub refused : (number place : ℕ) → Answer
+refused number place = record { number = number; place = place; width = nought; slope = nought; offset = nought; index = nought; thousandths = 0 }
+
+-- under 12 only the width stands
+abbrev pub only-width : Fraction → Answer
+only-width f = record { number = 12; place = 0; width = f; slope = nought; offset = nought; index = nought; thousandths = 0 }
+
+-- last x minus first x
+abbrev pub span : Run → ℕ
+span r = natAbs (input r (r .m - 1) -ℤ input r 0)
+
+-- the answer with the line L and the width w/z. The index is the width over the full-span output, absolute slope times span; where the slope is zero it is 0/1, under 11
+pub record Stands (r : Run) (L : Line) (w z : ℕ) (a : Answer) : Type 0 where
+  pub flat : L .a ≡ pos 0 → a .number ≡ 11
+  pub sloping : (L .a ≡ pos 0 → ⊥) → a .number ≡ 0
+  pub place : a .place ≡ 0
+  pub width : Made (pos w) z (a .width)
+  pub slope : Made (L .a) (L .q) (a .slope)
+  pub offset : Made (L .b) (L .q) (a .offset)
+  pub index : Made (pos (w * L .q)) (z * (natAbs (L .a) * span r)) (a .index)
+  pub thousandths : Nearest (100000 * natAbs (a .index .num)) (a .index .den) (a .thousandths)
+
+-- 15 (request C-11): zero-based linearity is asked for, and an input is negative
+abbrev pub from-zero : Index → Bool
+from-zero index.Terminal = false
+from-zero index.Shifted = false
+from-zero index.Independent = false
+from-zero index.Zero = true
+from-zero index.Front = false
+from-zero index.Hysteresis = false
+from-zero index.Repeatability = false
+from-zero index.Lh = false
+from-zero index.Lhr = false
+
+pub record BelowZero (which : Index) (r : Run) : Type 0 where
+  pub asked : T (from-zero which)
+  pub at : ℕ
+  pub within : at < r .m
+  pub negative : input r at <ℤ pos 0
+
+-- 13: repeatability or LHR is asked for, and the run has one cycle
+abbrev pub scatters : Index → Bool
+scatters index.Terminal = false
+scatters index.Shifted = false
+scatters index.Independent = false
+scatters index.Zero = false
+scatters index.Front = false
+scatters index.Hysteresis = false
+scatters index.Repeatability = true
+scatters index.Lh = false
+scatters index.Lhr = true
+
+abbrev pub OneCycle : Index → Run → Type 0
+OneCycle which r = T (scatters which) × (r .n ≡ 1)
+
+-- 12, then 11, of a run that is otherwise answered
+pub data Given (which : Index) (r : Run) (a : Answer) : Type 0 where
+  several : (w z : ℕ) → 0 < z → SeveralFit which r w z → Made (pos w) z (a .width) → a ≡ only-width (a .width) → Given which r a
+  one-line : (L : Line) → (w z : ℕ) → 0 < z → Fits which r L w z → Stands r L w z a → Given which r a
+
+-- the checks of the run, then 15, then 13, then 12, then 11
+pub data Due (which : Index) (r : Run) (a : Answer) : Type 0 where
+  no-run : (verdict r .number ≡ 0 → ⊥) → a ≡ refused (verdict r .number) (verdict r .place) → Due which r a
+  below-zero : verdict r .number ≡ 0 → BelowZero which r → a ≡ refused 15 0 → Due which r a
+  one-cycle : verdict r .number ≡ 0 → (BelowZero which r → ⊥) → OneCycle which r → a ≡ refused 13 0 → Due which r a
+  given : verdict r .number ≡ 0 → (BelowZero which r → ⊥) → (OneCycle which r → ⊥) → Given which r a → Due which r a

@@ -1,0 +1,6 @@
+pub mod Basis
+pub mod Found
+pub mod SameLine
+pub mod FoundLaws
+pub mod LineLaws
+pub mod WidthLaws

@@ -1,0 +1,94 @@
+-- What `fit` and `pin` find past a run's points is what the index of that line stands on; and when 15 is due.
+use mathlib.Core.Path.{_≡_, refl, sym, subst}
+use mathlib.Core.Logic.{inl}
+use Prim.Native.Nat.{_<_}
+use native.Mathlib.Omega.{arith}
+use lib.IntN.{pos}
+use lib.Signed.{_<ℤ_}
+use Rattle.whole.specs.Sign.{NonNeg}
+use Rattle.run.specs.Run.{input}
+use Rattle.run.specs.Limits.{verdict}
+use Rattle.run.specs.Checked.{checked}
+use Rattle.run.specs.declared.Run.{Run}
+use Rattle.groups.specs.Sums.{limit}
+use Rattle.band.specs.Line.{Points}
+use Rattle.band.specs.Same.{same-written}
+use Rattle.band.specs.Terminal.{terminal-line, terminal-some, terminal}
+use Rattle.band.specs.Band.{Admitted}
+use Rattle.fit.specs.Answer.{BestDue, TheTerminal, TheShifted}
+use Rattle.fit.specs.Once.{level-single}
+use Rattle.fit.specs.Plot.{CourseDue, PlotDue}
+use Rattle.fit.specs.declared.Course.{Course}
+use Rattle.fit.specs.declared.Plotted.{Plotted}
+use Rattle.pin.specs.Answer.{NoNegative, ZeroDue, FrontDue}
+use Rattle.bands.specs.Through.{means, strokes, limit-points}
+use Rattle.bands.specs.Parts.{SamePoints}
+use Rattle.bands.specs.Transfer.{same-points-sym, largest-points, terminal-points, zero-points, front-points}
+use Rattle.due.specs.Due.{BelowZero}
+use Rattle.due.specs.DueLaws.{below-first, not-negative, best-same}
+use Rattle.due.specs.Ground.{Answered, GroundDue}
+use Rattle.due.specs.declared.Ground.the-variants as ground
+use Rattle.due.specs.declared.Index.the-variants as index
+use Rattle.grounds.specs.Found.{owned, stood}
+use Rattle.grounds.specs.SameLine.{best-line, many-lines, best-points, many-points, best-family, many-family}
+use Rattle.grounds.specs.FoundLaws.{whole, whole-tells, whole-width, plainly, own-rests, plot-stands}
+
+-- ---- the terminal line and the shifted one
+module _ {P : Points} (r : Run) {c : Course} (fine : verdict r .number ≡ 0) (e : SamePoints P (means r)) where
+  pub terminal-stands : CourseDue (TheTerminal P) c → GroundDue index.Terminal r (ground.Line (owned c))
+  terminal-stands d =
+      let t = d .due (whole c) (whole-tells c) in
+      (plainly index.Terminal refl refl fine, own-rests (t .told) (terminal-points e (omega (arith, checked r fine .m-least)) (t .ends), largest-points e (t .largest)))
+
+  pub shifted-stands : Admitted P → CourseDue (TheShifted P) c → GroundDue index.Shifted r (ground.Line (owned c))
+  shifted-stands a d =
+      let t = d .due (whole c) (whole-tells c) in
+      let T = terminal-line P (terminal-some (a .proper)) in
+      let told = t .line T (terminal (a .proper) (terminal-some (a .proper))) .told in
+      let some : 0 < P .m = omega (arith, e .m, checked r fine .m-least) in (
+        plainly index.Shifted refl refl fine,
+        own-rests told
+            (λ T h.
+            let line = t .line T (terminal-points (same-points-sym e) some h) in
+            best-same (same-written refl refl refl) (line .member) (best-points e line)),
+      )
+
+-- ---- the best lines
+-- T has one value at each input, so that its line is single
+pub independent-stands : (r : Run) → verdict r .number ≡ 0 → (p : Plotted) → PlotDue (BestDue (means r)) p → GroundDue index.Independent r (stood p)
+independent-stands r fine = plot-stands (plainly index.Independent refl refl fine)
+    (λ c d. own-rests (d .1 .told) (best-line (d .1)))
+    (λ h d. absurd (level-single (means r) (λ i g. refl) (whole-width h) d))
+
+pub strokes-stand : (r : Run) → verdict r .number ≡ 0 → (p : Plotted) → PlotDue (BestDue (strokes r)) p → GroundDue index.Lh r (stood p)
+strokes-stand r fine = let o = plainly index.Lh refl refl fine in plot-stands o
+    (λ c d. own-rests (d .1 .told) (best-line (d .1)))
+    (λ h d. (o, d .1 .some, d .1 .sign, many-lines (d .1)))
+
+pub limits-stand : (r : Run) → Answered index.Lhr r → (p : Plotted) → PlotDue (BestDue (limit-points r (limit r))) p → GroundDue index.Lhr r (stood p)
+limits-stand r o = plot-stands o
+    (λ c d. own-rests (d .1 .told) (best-line (d .1)))
+    (λ h d. (o, d .1 .some, d .1 .sign, many-lines (d .1)))
+
+-- ---- negative inputs
+pub points-not-negative : (P : Points) (r : Run) → (BelowZero index.Zero r → ⊥) → SamePoints P (means r) → NoNegative P
+points-not-negative P r none e i h = let k : i < r .m = omega (arith, e .m) in subst NonNeg (sym (e .x i k)) (not-negative none i k)
+
+pub fifteen : (r : Run) → verdict r .number ≡ 0 → input r 0 <ℤ pos 0 → GroundDue index.Zero r (ground.Refused 15)
+fifteen r fine l = (fine, inl (refl, below-first (checked r fine) tt l))
+
+-- ---- the lines through a fixed point
+module _ {P : Points} (r : Run) (fine : verdict r .number ≡ 0) (e : SamePoints P (means r)) where
+  pub zero-stands : (BelowZero index.Zero r → ⊥) → (p : Plotted) → PlotDue (ZeroDue P) p → GroundDue index.Zero r (stood p)
+  zero-stands none =
+      let o : Answered index.Zero r = record { fine = fine; from-zero = none; cycles = λ h. absurd (h .0) } in
+      plot-stands o
+      (λ c d. own-rests (d .3 .told) (best-family (zero-points e) (zero-points (same-points-sym e)) (best-points e (d .3))))
+      (λ h d. (o, d .3 .some, d .3 .sign, many-family (zero-points e) (zero-points (same-points-sym e)) (many-points e (d .3))))
+
+  pub front-stands : (p : Plotted) → PlotDue (FrontDue P) p → GroundDue index.Front r (stood p)
+  front-stands =
+      let m = checked r fine .m-least in
+      plot-stands (plainly index.Front refl refl fine)
+      (λ c d. own-rests (d .2 .told) (best-family (front-points e (omega (arith, m))) (front-points (same-points-sym e) (omega (arith, m, e .m))) (best-points e (d .2))))
+      (λ h d. absurd d)
