@@ -10,11 +10,11 @@ RUNS ?= runs
 runs:
 	@python3 tests/check_runs.py "$(RUNS)"
 
-# Every proof from nothing, every must-fail edit, every program, the comparison with the second program, and the runs worked by hand.
+# Every proof from nothing, every must-fail edit, every program, the comparison with the second program, the runs worked by hand, and their work sheets.
 test:
 	@python3 tests/gate.py
 
-# Speaks and brailles for real what the programs print; needs espeak-ng and liblouis, which nothing else here does.
+# Speaks and brailles for real what the programs print, and brailles the work sheets; needs espeak-ng and liblouis, which nothing else here does.
 heard:
 	@python3 tests/heard.py
 

@@ -1,5 +1,5 @@
 """The test command: `make test`. Its last line is 'N passed, 0 failed' only where all of this held:
-the files are laid out as `rt fmt` lays them, `rt ci` ended with status 0 and its own such line, and every comparison with the second program and with the sheets worked by hand ran and agreed."""
+the files are laid out as `rt fmt` lays them, `rt ci` ended with status 0 and its own such line, and every comparison with the second program and with the sheets worked by hand ran and agreed, and every line of a work sheet keeps to its rules."""
 import os
 import re
 import subprocess
@@ -11,6 +11,7 @@ ROOT = os.path.dirname(HERE)
 sys.path.insert(0, HERE)
 
 import check_runs  # noqa: E402
+import check_work  # noqa: E402
 import compare_bench  # noqa: E402
 import compare_files  # noqa: E402
 import compare_fractions  # noqa: E402
@@ -18,7 +19,7 @@ import compare_lines  # noqa: E402
 import compare_sheets  # noqa: E402
 import compare_texts  # noqa: E402
 
-COMPARISONS = [compare_fractions, compare_files, compare_lines, compare_sheets, compare_texts, compare_bench, check_runs]
+COMPARISONS = [compare_fractions, compare_files, compare_lines, compare_sheets, compare_texts, compare_bench, check_runs, check_work]
 
 
 def say(text):

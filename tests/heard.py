@@ -1,7 +1,8 @@
 """`make heard`: speaks and brailles for real what the programs print, with espeak-ng and liblouis (Debian's packages espeak-ng and liblouis-bin). It is no part of the test command, which needs neither.
 Each line of every sheet and listing of the folder runs, of a listing with the longest lines there are, and of every refusal is
 - spoken: the sounds of the line are those of the same line with its signs written as words, so that no sign is lost;
-- brailled, uncontracted (UEB): translated back it is the same line, and it has at most forty cells where the figures allow, which is everywhere but in a sheet's lines of long fractions."""
+- brailled, uncontracted (UEB): translated back it is the same line, it has as many cells as tests/braille.py says, and at most forty where the figures allow, which is everywhere but in a sheet's lines of long fractions.
+Each line of every work sheet is brailled in the same way."""
 import itertools
 import os
 import re
@@ -12,11 +13,11 @@ HERE = os.path.dirname(os.path.abspath(__file__))
 ROOT = os.path.dirname(HERE)
 sys.path.insert(0, HERE)
 
+from braille import CELLS, NotCounted, cells  # noqa: E402
 from second import text  # noqa: E402
 from second.sheet import NAMES  # noqa: E402
-from worked_runs import names  # noqa: E402
+from worked_runs import names, part  # noqa: E402
 
-CELLS = 40
 TABLES = 'unicode.dis,en-ueb-g1.ctb'
 
 
@@ -49,11 +50,19 @@ def spoken_faults(lines):
     return faults
 
 
+def counted(line):
+    try:
+        return str(cells(line))
+    except NotCounted as what:
+        return 'no number, since it has %s' % what
+
+
 def brailled(lines):
-    """The cells of each line, and the faults: a line that does not come back as it was."""
-    cells = tool(['lou_translate', '--forward', TABLES], '\n'.join(lines) + '\n').split('\n')[:len(lines)]
-    back = tool(['lou_translate', '--backward', TABLES], '\n'.join(cells) + '\n').split('\n')[:len(lines)]
-    return cells, ['%r comes back from braille as %r' % pair for pair in zip(lines, back) if pair[0] != pair[1]]
+    """The braille of each line, and the faults: a line that does not come back as it was, or has not as many cells as are counted."""
+    braille = tool(['lou_translate', '--forward', TABLES], '\n'.join(lines) + '\n').split('\n')[:len(lines)]
+    back = tool(['lou_translate', '--backward', TABLES], '\n'.join(braille) + '\n').split('\n')[:len(lines)]
+    faults = ['%r comes back from braille as %r' % pair for pair in zip(lines, back) if pair[0] != pair[1]]
+    return braille, faults + ['%r has %d cells and is counted as %s' % (line, len(felt), counted(line)) for line, felt in zip(lines, braille) if str(len(felt)) != counted(line)]
 
 
 def printed(program, given):
@@ -70,12 +79,18 @@ def longest_text():
     return b'\n'.join([b'points 11 cycles 10'] + points + readings) + b'\n'
 
 
+def work_sheets():
+    """What is brailled only: a name and the lines."""
+    folder = os.path.join(ROOT, 'runs')
+    for name in names(folder):
+        yield 'work sheet of ' + name, part(folder, name, '.txt').decode('ascii').splitlines()
+
+
 def sources():
     """What is spoken and brailled: a name, the lines, and whether forty cells are always enough."""
     folder = os.path.join(ROOT, 'runs')
     for name in names(folder):
-        with open(os.path.join(folder, name + '.run'), 'rb') as file:
-            data = file.read()
+        data = part(folder, name, '.run')
         yield 'sheet of ' + name, printed('sheet', data).splitlines(), False
         yield 'listing of ' + name, printed('listing', data).splitlines(), True
     run_file = subprocess.run([os.path.join(ROOT, 'bench'), 'typed'], input=longest_text(), capture_output=True).stdout
@@ -88,18 +103,24 @@ def sources():
     yield 'refusals of an index', ['%s refused %d' % (name, n) for name in NAMES + ('line',) for n in (11, 12, 13, 15)], True
 
 
+def told(name, lines, always):
+    """Says how long the lines are, and gives the faults of their braille."""
+    braille, faults = brailled(lines)
+    length, line = max((len(felt), line) for felt, line in zip(braille, lines))
+    print('%s: %d different lines, the longest has %d cells, %d characters: %s' % (name, len(lines), length, len(line), line))
+    over = [line for felt, line in zip(braille, lines) if len(felt) > CELLS]
+    for line in over:
+        print('  more than %d cells: %s' % (CELLS, line))
+    return faults + (['%s has more than %d cells' % (line, CELLS) for line in over] if always else [])
+
+
 def main():
     faults = []
     for name, lines, always in sources():
         distinct = sorted(set(lines))
-        cells, lost = brailled(distinct)
-        lost += spoken_faults(distinct)
-        length, line = max((len(cell), line) for cell, line in zip(cells, distinct))
-        over = [line for cell, line in zip(cells, distinct) if len(cell) > CELLS]
-        print('%s: %d lines, the longest has %d cells, %d characters: %s' % (name, len(lines), length, len(line), line))
-        for line in over:
-            print('  more than %d cells: %s' % (CELLS, line))
-        faults += lost + (['%s has more than %d cells' % (line, CELLS) for line in over] if always else [])
+        faults += told(name, distinct, always) + spoken_faults(distinct)
+    for name, lines in work_sheets():
+        faults += told(name, sorted(set(lines)), True)
     for fault in faults:
         print('FAULT: ' + fault)
     print('heard: %d faults' % len(faults))

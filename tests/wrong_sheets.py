@@ -188,6 +188,30 @@ class DividedByN(Bench):
         return self.run.n
 
 
+class ShiftedApart(Bench):
+    """Q over differences, as C-14 works it, with a reading of its own for each of the two sums. As it stands here, with the first one for both, it is right; those made of it take another one in one sum."""
+
+    def of_sum(self, stroke, i):
+        return self.group(stroke, i)[0]
+
+    def of_squares(self, stroke, i):
+        return self.group(stroke, i)[0]
+
+    def squares(self, stroke, i):
+        group = self.group(stroke, i)
+        return self.run.n * sum((y - self.of_squares(stroke, i)) ** 2 for y in group) - sum(y - self.of_sum(stroke, i) for y in group) ** 2
+
+
+class LastForFirst(ShiftedApart):
+    def of_squares(self, stroke, i):
+        return self.group(stroke, i)[-1]
+
+
+class FirstOfTheOtherStroke(ShiftedApart):
+    def of_sum(self, stroke, i):
+        return self.group(DOWN if stroke == UP else UP, i)[0]
+
+
 class LargestLimitEverywhere(Bench):
     def limits(self, stroke):
         return [max(self.limit(s, i) for s in (UP, DOWN) for i in range(self.run.m))] * self.run.m
@@ -238,6 +262,8 @@ WRONG = [
     ('15 for every index of a run with a negative input', NegativeBarsAll, ('negative', 1, '15')),
     ('15 for an input at zero', ZeroTakenForNegative, ('sample', 4, '15')),
     ("dividing by n in Bessel's formula", DividedByN, None),
+    ('the squares of differences to the last reading, the sum of those to the first', LastForFirst, None),
+    ('the sum of differences to the first reading of the other stroke, the squares of those to its own', FirstOfTheOtherStroke, None),
     ('the largest k at every limit point', LargestLimitEverywhere, None),
     ('the first cycle for all cycles', FirstCycleAlone, None),
     ('a program that refuses every run', RefusesEveryRun, None),

@@ -1,13 +1,13 @@
 // The numbers of the bench, kept apart by their types (the paper, "Input units, reading units and sum units"). They are worked with here and, but for comparisons, nowhere else: a stranger can
-// see that no number of one kind is ever added to one of another. Outside, a difference is a whole number whose name says what it counts.
+// see that no number of one kind is ever added to one of another. Outside, a difference is a whole number whose name says what it counts; only the differences of readings that are added up, for Q, have a type.
 ghost use mathlib.Core.List.{_∷_, []};
 ghost use mathlib.Core.Path.{_≡_};
 ghost use Prim.Native.Nat.{_<_, _≤_};
 ghost use lib.IntN.{pos, natAbs, _+ℤ_, _-ℤ_, _*ℤ_};
-ghost use lib.Signed.{ltZ};
+ghost use lib.Signed.{ltZ, _≤ℤ_};
 ghost use Rattle.whole.specs.Greater.{smaller, greater};
 ghost use Rattle.whole.specs.Machine.{Bounds};
-ghost use Rattle.units.specs.Units.{most-x, most-y, most-s, most-v, input-in, reading-in, sum-in, part-in};
+ghost use Rattle.units.specs.Units.{most-x, most-y, most-difference, most-difference-sum, most-square-sum, most-s, most-v, input-in, reading-in, sum-in, part-in};
 
 // An input x, in input units.
 pub struct Input {
@@ -21,6 +21,16 @@ pub struct Reading {
 
 // A sum over the n cycles of a run, in sum units: one nth of a reading unit.
 pub struct Sum {
+    pub count: i64,
+}
+
+// A reading's difference to another of its group, or such differences added up, in reading units. It is no reading, since it stays as it is where all readings are shifted, and no sum of readings.
+pub struct Difference {
+    pub count: i64,
+}
+
+// The square of a difference, or such squares added up, in squares of a reading unit.
+pub struct Square {
     pub count: i64,
 }
 
@@ -170,6 +180,46 @@ pub fn over_denominator(s: Sum, q: u64) -> i64
 {
     let p = s.count;
     p * (q as i64)
+}
+
+// ---- differences
+// What a lies above b.
+pub fn above(a: Reading, b: Reading) -> Difference
+    requires { ⌜ Bounds (a .count ∷ b .count ∷ []) (most-y ∷ most-y ∷ []) ⌝ }
+    ensures { λ e. ⌜ e .count ≡ a .count -ℤ b .count ⌝ }
+{
+    Difference {
+        count: excess(a, b),
+    }
+}
+
+pub fn with_difference(sum: Difference, e: Difference) -> Difference
+    requires { ⌜ Bounds (sum .count ∷ e .count ∷ []) (most-difference-sum ∷ most-difference ∷ []) ⌝ }
+    ensures { λ r. ⌜ r .count ≡ sum .count +ℤ e .count ⌝ }
+{
+    let p = sum.count;
+    let q = e.count;
+    Difference { count: p + q }
+}
+
+pub fn with_square(squares: Square, e: Difference) -> Square
+    requires { ⌜ Bounds (squares .count ∷ e .count ∷ []) (most-square-sum ∷ most-difference ∷ []) ⌝ }
+    ensures { λ r. ⌜ r .count ≡ squares .count +ℤ e .count *ℤ e .count ⌝ }
+{
+    let p = squares.count;
+    let q = e.count;
+    Square { count: p + q * q }
+}
+
+// n times the sum of the squares of n differences, less the square of their sum.
+pub fn spread(n: usize, sum: Difference, squares: Square) -> u64
+    requires { ⌜ Bounds (pos n ∷ sum .count ∷ squares .count ∷ []) (10 ∷ most-difference-sum ∷ most-square-sum ∷ []) × (pos 0 ≤ℤ (pos n *ℤ squares .count -ℤ sum .count *ℤ sum .count)) ⌝ }
+    ensures { λ q. ⌜ pos q ≡ pos n *ℤ squares .count -ℤ sum .count *ℤ sum .count ⌝ }
+{
+    let k = n as i64;
+    let p = sum.count;
+    let q = squares.count;
+    (k * q - p * p) as u64
 }
 
 // ---- parts
