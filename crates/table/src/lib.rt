@@ -1,0 +1,1 @@
+// A table of refusals: theory only, without code.
