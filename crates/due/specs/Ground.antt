@@ -6,7 +6,7 @@ use lib.IntN.{pos, natAbs}
 use lib.Signed.{_≤ℤ_}
 use Rattle.exact.specs.Value.{Made, nought}
 use Rattle.exact.specs.Rounding.{Nearest}
-use Rattle.run.specs.Limits.{verdict}
+use Rattle.run.specs.Checks.{verdict}
 use Rattle.run.specs.declared.Run.{Run}
 use Rattle.band.specs.Line.{Line}
 use Rattle.due.specs.Due.{Fits, SeveralFit, refused, only-width, BelowZero, OneCycle}

@@ -6,7 +6,7 @@ use lib.Dec.{T}
 use mathlib.Core.Bool.{false}
 use lib.IntN.{natAbs}
 use Rattle.exact.specs.Exists.{some-made}
-use Rattle.run.specs.Limits.{verdict}
+use Rattle.run.specs.Checks.{verdict}
 use Rattle.run.specs.declared.Run.{Run}
 use Rattle.band.specs.Line.{Points}
 use Rattle.fit.specs.Answer.{Told, line-of, BestDue}

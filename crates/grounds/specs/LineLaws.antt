@@ -7,7 +7,7 @@ use lib.IntN.{pos}
 use lib.Signed.{_<ℤ_}
 use Rattle.whole.specs.Sign.{NonNeg}
 use Rattle.run.specs.Run.{input}
-use Rattle.run.specs.Limits.{verdict}
+use Rattle.run.specs.Checks.{verdict}
 use Rattle.run.specs.Checked.{checked}
 use Rattle.run.specs.declared.Run.{Run}
 use Rattle.groups.specs.Sums.{limit}

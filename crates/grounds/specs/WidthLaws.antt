@@ -12,7 +12,7 @@ use lib.Signed.{_≤ℤ_}
 use Rattle.whole.specs.Sign.{nonneg-mul, nonneg-nat}
 use Rattle.whole.specs.Size.{size-sub, size-product}
 use Rattle.whole.specs.Greater.{greater-size}
-use Rattle.run.specs.Limits.{verdict}
+use Rattle.run.specs.Checks.{verdict}
 use Rattle.run.specs.Checked.{Checked}
 use Rattle.run.specs.declared.Run.{Run}
 use Rattle.groups.specs.Sums.{up-sum, down-sum, limit}

@@ -6,7 +6,7 @@ ghost use lib.IntN.{pos, natAbs};
 ghost use lib.ListN.{getD, length};
 ghost use lib.Signed.{ltZ};
 ghost use Rattle.run.specs.Run.{lent, group};
-ghost use Rattle.run.specs.Limits.{verdict};
+ghost use Rattle.run.specs.Checks.{verdict};
 ghost use Rattle.groups.specs.Limit.{BothLimits};
 ghost use Rattle.band.specs.Band.{Admitted};
 ghost use Rattle.fit.specs.Answer.{BestDue};

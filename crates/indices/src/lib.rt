@@ -1,7 +1,7 @@
 // The nine indices of a run.
 ghost use mathlib.Core.Path.{_≡_};
 ghost use Rattle.run.specs.Run.{lent, group};
-ghost use Rattle.run.specs.Limits.{verdict};
+ghost use Rattle.run.specs.Checks.{verdict};
 ghost use Rattle.groups.specs.Limit.{BothLimits};
 ghost use Rattle.bands.specs.declared.Width.the-variants as widths;
 ghost use Rattle.due.specs.Due.{Due};

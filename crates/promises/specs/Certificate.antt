@@ -10,7 +10,7 @@ use lib.ListN.{getD}
 use lib.Signed.{leZ}
 use Rattle.whole.specs.Every.{every}
 use Rattle.run.specs.Run.{input}
-use Rattle.run.specs.Limits.{verdict}
+use Rattle.run.specs.Checks.{verdict}
 use Rattle.run.specs.declared.Run.{Run}
 use Rattle.band.specs.Line.{Line}
 use Rattle.band.specs.Candidate.{Candidate}

@@ -10,7 +10,7 @@ use lib.IntN.{ℤ, pos}
 use lib.Signed.{leZ-yes, clashℤ}
 use mir.Facts.{yes-and, or-yes, T-not, yes-eqb}
 use Rattle.whole.specs.Every.{every, every-holds}
-use Rattle.run.specs.Limits.{verdict}
+use Rattle.run.specs.Checks.{verdict}
 use Rattle.run.specs.Checked.{Checked, checked}
 use Rattle.run.specs.declared.Run.{Run}
 use Rattle.band.specs.Line.{Line, Points, Proper, All, Passing}

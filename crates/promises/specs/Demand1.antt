@@ -12,7 +12,7 @@ use lib.ListN.{length, drop}
 use Rattle.exact.specs.Value.{nought}
 use Rattle.plain.specs.declared.Printed.{Printed}
 use Rattle.run.specs.Run.{zeros}
-use Rattle.run.specs.Limits.{verdict}
+use Rattle.run.specs.Checks.{verdict}
 use Rattle.run.specs.declared.Run.{Run}
 use Rattle.reader.specs.Meaning.{meaning}
 use Rattle.writer.specs.File.{written, buffer-after}

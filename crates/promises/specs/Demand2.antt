@@ -15,7 +15,7 @@ use Rattle.exact.specs.Value.{Worth, Lowest, Made, nought}
 use Rattle.exact.specs.Rounding.{Nearest}
 use Rattle.exact.specs.declared.Fraction.{Fraction}
 use Rattle.run.specs.Run.{input}
-use Rattle.run.specs.Limits.{verdict}
+use Rattle.run.specs.Checks.{verdict}
 use Rattle.run.specs.Checked.{Checked, checked, verdict-fine}
 use Rattle.run.specs.declared.Run.{Run}
 use Rattle.groups.specs.Sums.{up-sum, down-sum, both-sum}

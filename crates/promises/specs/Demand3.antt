@@ -5,7 +5,7 @@
 use mathlib.Core.Path.{_≡_}
 use Prim.Native.Nat.{_≤_}
 use lib.IntN.{pos, _+ℤ_, _-ℤ_, _*ℤ_}
-use Rattle.run.specs.Limits.{verdict}
+use Rattle.run.specs.Checks.{verdict}
 use Rattle.run.specs.declared.Run.{Run}
 use Rattle.band.specs.Line.{Line}
 use Rattle.due.specs.Due.{Due}

@@ -11,7 +11,7 @@ use lib.Signed.{_≤ℤ_, _<ℤ_, clashℤ}
 use Rattle.whole.specs.Sign.{le-or-gt}
 use Rattle.exact.specs.RoundingLaws.{some-nearest}
 use Rattle.run.specs.Run.{input}
-use Rattle.run.specs.Limits.{verdict}
+use Rattle.run.specs.Checks.{verdict}
 use Rattle.run.specs.Checked.{Checked, checked}
 use Rattle.run.specs.declared.Run.{Run}
 use Rattle.groups.specs.Sums.{limit}

@@ -16,7 +16,8 @@ use Rattle.exact.specs.Once.{one-nearest}
 use Rattle.exact.specs.declared.Fraction.{Fraction}
 use Rattle.limits.specs.Limits.{sizes}
 use Rattle.run.specs.Run.{input, zeros}
-use Rattle.run.specs.Limits.{fails-at, fine, shape, verdict}
+use Rattle.run.specs.Limits.{fails-at}
+use Rattle.run.specs.Checks.{fine, shape, verdict}
 use Rattle.run.specs.declared.Run.{Run}
 use Rattle.run.specs.declared.Verdict.{Verdict}
 use Rattle.run.specs.declared.Rule.the-variants.{Limits, Rising, Calm}

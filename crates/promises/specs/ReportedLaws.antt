@@ -6,7 +6,7 @@ use Rattle.whole.specs.Sign.{NonNeg, positive-nat, nonneg-nat, cancel-le, nat-n
 use Rattle.whole.specs.Size.{size-product}
 use Rattle.exact.specs.Value.{Made}
 use Rattle.exact.specs.declared.Fraction.{Fraction}
-use Rattle.run.specs.Limits.{verdict}
+use Rattle.run.specs.Checks.{verdict}
 use Rattle.run.specs.declared.Run.{Run}
 use Rattle.band.specs.Line.{Line, Points, All, Passing, Zero, Front, Same}
 use Rattle.band.specs.Same.{through, same-passing}

@@ -8,7 +8,7 @@ use Rattle.exact.specs.Value.{nought}
 use Rattle.exact.specs.declared.Fraction.{Fraction}
 use Rattle.plain.specs.Plain.{refused-line}
 use Rattle.run.specs.Places.{rising}
-use Rattle.run.specs.Limits.{verdict}
+use Rattle.run.specs.Checks.{verdict}
 use Rattle.run.specs.Table.{length-table, table-at}
 use Rattle.run.specs.declared.Run.{Run}
 use Rattle.reader.specs.Meaning.{meaning}

@@ -11,7 +11,7 @@ use lib.ListN.{length, drop, drop-of-length-le}
 use Rattle.whole.specs.Flags.{apart}
 use Rattle.limits.specs.Limits.{sizes}
 use Rattle.run.specs.Places.{Place, input-at, reading-at, places}
-use Rattle.run.specs.Limits.{shape, fine, verdict}
+use Rattle.run.specs.Checks.{shape, fine, verdict}
 use Rattle.run.specs.declared.Run.{Run}
 use Rattle.run.specs.declared.Verdict.{Verdict}
 use Rattle.record.specs.Record.{record-at, bytes}

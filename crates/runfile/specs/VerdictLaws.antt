@@ -14,7 +14,8 @@ use Rattle.whole.specs.Every.{every-holds, every-by, first-not, first-not-is}
 use Rattle.limits.specs.Limits.{sizes, in-x, in-y}
 use Rattle.limits.specs.Laws.{sizes-within}
 use Rattle.run.specs.Run.{input, reading}
-use Rattle.run.specs.Limits.{stroke-in-limits, holds, fails-at, fine, shape, verdict}
+use Rattle.run.specs.Limits.{stroke-in-limits, holds, fails-at}
+use Rattle.run.specs.Checks.{fine, shape, verdict}
 use Rattle.run.specs.Checked.{within-limits}
 use Rattle.run.specs.declared.Run.{Run}
 use Rattle.run.specs.declared.Verdict.{Verdict}

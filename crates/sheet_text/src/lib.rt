@@ -8,7 +8,7 @@ ghost use lib.ListN.{length, take};
 ghost use Rattle.plain.specs.Grown.{Put};
 ghost use Rattle.sheet_text.specs.Sheet.{name, head-line, SheetDue, PrintDue};
 ghost use Rattle.run.specs.Run.{lent};
-ghost use Rattle.run.specs.Limits.{verdict};
+ghost use Rattle.run.specs.Checks.{verdict};
 ghost use Rattle.sheet_text.specs.Grown.{shown-line, ruled-line, RunText};
 use due::Index;
 use due::Ruled;

@@ -86,6 +86,14 @@ zero-accepted [] a u h e = h
 zero-accepted (row ∷ rows) a u (inl h) e = absurd (u .0 (sym e ∙ h .0))
 zero-accepted (row ∷ rows) a u (inr h) e = zero-accepted rows a (u .1) (h .1) e
 
+-- the number 0 is given exactly when no condition holds
+pub zero-exactly : (rows : List Row) → All (Unlike 0) rows → (given rows .number ≡ 0) ↔ All Silent rows
+zero-exactly rows u =
+    let a = accepted-exactly rows u in (
+      λ e. a .0 (subst (First rows) (zero-accepted rows (given rows) u (exists rows) e) (exists rows)),
+      λ s. ap (λ (g : Given). g .number) (sym (first-given rows (a .1 s))),
+    )
+
 -- ---- tables one behind the other
 pub all-append : (P : Row → Type 0) (a b : List Row) → All P (a ++ b) ↔ (All P a × All P b)
 all-append P [] b = (λ h. (tt, h), λ h. h .1)

@@ -9,7 +9,8 @@ use lib.Dec.{ltb}
 use Rattle.whole.specs.Flags.{apart, yes-T, T-yes}
 use Rattle.whole.specs.Between.{between-size}
 use Rattle.limits.specs.Limits.{sizes}
-use Rattle.run.specs.Limits.{fine, shape, verdict, fails-at}
+use Rattle.run.specs.Limits.{fails-at}
+use Rattle.run.specs.Checks.{fine, shape, verdict}
 use Rattle.run.specs.declared.Run.{Run}
 use Rattle.run.specs.declared.Rule.the-variants.{Rising, Calm}
 use Rattle.record.specs.declared.Record.{Record}

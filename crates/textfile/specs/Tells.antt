@@ -4,7 +4,7 @@ use mathlib.Core.List.{List, List·Permᴰ, List·Permᴰ·trans, Permᴰ·symm}
 use Prim.Native.Nat.{ℕ, _≤_}
 use native.Mathlib.Omega.{arith}
 use lib.ListN.{length}
-use Rattle.run.specs.Limits.{fine, verdict}
+use Rattle.run.specs.Checks.{fine, verdict}
 use Rattle.run.specs.declared.Run.{Run}
 use Rattle.reader.specs.Meaning.{meaning}
 use Rattle.writer.specs.File.{travel, framed}
