@@ -18,40 +18,6 @@ use Rattle.runfile.specs.PlaceLaws.{and-true, same, same-self, same-equa
 use Rattle.runfile.specs.Rearrange.{All, Distinct}
 use Rattle.record.specs.declared.Record.{Record}
 
--- a place stands in a list
-abbrev pub among : Place → List Place → Bool
-among p ps = ltb 0 (times p ps)
-
-pub among-none : (p : Place) → among p [] ≡ false
-unfolding times
-among-none p = refl
-
--- a list's first place, and the rest
-pub among-cons : (p q : Place) (ps : List Place) → among p (q ∷ ps) ≡ (same p q || among p ps)
-unfolding times
-among-cons p q ps = go (same p q)
-  where
-    go : (b : Bool) → ltb 0 (one b + times p ps) ≡ (b || ltb 0 (times p ps))
-    go true = lt-ltb 0 (1 + times p ps) (omega arith)
-    go false = rw zero-add
-
-pub among-first : (p : Place) (ps : List Place) → among p (p ∷ ps) ≡ true
-among-first p ps = rw (among-cons p p ps, same-self p)
-
-pub among-later : (p q : Place) (ps : List Place) → among p ps ≡ true → among p (q ∷ ps) ≡ true
-among-later p q ps k = rw (among-cons p q ps, k) (or-true (same p q))
-  where
-    or-true : (b : Bool) → (b || true) ≡ true
-    or-true true = refl
-    or-true false = refl
-
-pub among-places : (m n : ℕ) (p : Place) → among p (places m n) ≡ within m n p
-among-places m n p = rw (times-places m n p) (go (within m n p))
-  where
-    go : (b : Bool) → ltb 0 (one b) ≡ b
-    go true = refl
-    go false = refl
-
 module _ (r : Run) where
   is-at-of : (p q : Place) → is-at p (record-of r q) ≡ same p q
   is-at-of (input-at i) (input-at j) = refl

@@ -47,6 +47,9 @@ one (row ∷ rows) (inr h) (inr k) = one rows (h .1) (k .1)
 pub first-given : (rows : List Row) {a : Given} → First rows a → a ≡ given rows
 first-given rows h = one rows h (exists rows)
 
+pub first-exactly : (rows : List Row) (a : Given) → First rows a ↔ (a ≡ given rows)
+first-exactly rows a = (first-given rows, λ e. subst (First rows) (sym e) (exists rows))
+
 -- ---- exactly when
 absent : (k : ℕ) (rows : List Row) (p : ℕ) → ¬ (k ≡ 0) → All (Unlike k) rows → ¬ (First rows (given-at k p))
 absent k [] p n u h = n (ap (λ (a : Given). a .number) h)
