@@ -6,3 +6,7 @@ pub mod FirstFault
 pub mod Good
 pub mod Order
 pub mod Framed
+pub mod Matching
+pub mod Filled
+pub mod Trimmed
+pub mod Travel
