@@ -1,0 +1,1 @@
+// What a typed text means: theory only, without code. `typed_text` hears it.
