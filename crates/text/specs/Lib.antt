@@ -1,1 +1,4 @@
 pub mod Text
+pub mod Accepted
+pub mod Framed
+pub mod Order
