@@ -1,9 +1,1 @@
 pub mod Typed
-pub mod Method
-pub mod HeardLaws
-pub mod SeekLaws
-pub mod SurveyLaws
-pub mod Draft
-pub mod DraftLaws
-pub mod NumberLaws
-pub mod TypedLaws
