@@ -5,3 +5,5 @@ pub mod Taken
 pub mod Split
 pub mod Early
 pub mod UpTo
+pub mod Settled
+pub mod FirstPart
