@@ -2,6 +2,7 @@ pub mod Record
 pub mod Tests
 pub mod Meaning
 pub mod Sound
+pub mod Numbers
 pub mod FirstFault
 pub mod Good
 pub mod Order
