@@ -4,3 +4,4 @@ pub mod Longest
 pub mod RecordLaws
 pub mod Witness
 pub mod WordLaws
+pub mod FirstPart

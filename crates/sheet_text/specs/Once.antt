@@ -6,7 +6,7 @@ use native.Mathlib.Omega.{arith}
 use lib.ListN.{length, take, drop}
 use Rattle.plain.specs.Plain.{refused-line}
 use Rattle.plain.specs.declared.Printed.{Printed}
-use Rattle.reader.specs.Meaning.{meaning}
+use Rattle.reader.specs.Meaning.{as-answer, meaning}
 use Rattle.reader.specs.declared.Answer.{Answer}
 use Rattle.runfile.specs.FirstPart.{first-part}
 use Rattle.due.specs.Due.{Due}
@@ -46,4 +46,4 @@ same-meaning {s} {u} {t} e (accepted h A d f) =
 
 -- the sheet of a file is that of its first 1,837 bytes
 pub sheet-first-part : (s : List ℕ) {t : List ℕ} → 1837 ≤ length s → SheetDue (take 1837 s) t → SheetDue s t
-sheet-first-part s h = same-meaning (first-part s h)
+sheet-first-part s h = same-meaning (ap as-answer (first-part s h))

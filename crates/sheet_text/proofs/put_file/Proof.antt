@@ -1,15 +1,10 @@
 -- `sheet_text::put_file` meets its contract: a refused file has one line, and what was read and accepted passes every check of a run.
 use native.Mathlib.Omega.{arith}
 use borrow.Author.Needs.{needs}
-use Rattle.runfile.specs.RecordLaws.{Bytes}
-use Rattle.runfile.specs.ReadFine.{read-fine}
+use Rattle.reader.specs.ReadFine.{read-fine}
 use Rattle.sheet_text.specs.SheetLaws.{sheet-refused, sheet-accepted}
 use Rattle.sheet_text.proofs.put_file.Statement.{statement}
 use Rattle.sheet_text.proofs.put_file.Tie as tie
-
--- a lent byte is below 256
-bytes : (c : tie.After-shared-slice-known) → Bytes (c .before .args .file .now)
-bytes c i h = omega (arith, c .shared-slice-known .given i)
 
 read-into-requires : tie.Need-read-into-requires
 read-into-requires c κs = search needs
@@ -25,7 +20,7 @@ put-run-requires c κs =
     let i = c .before .before .before in
     let r = i .before .before in
     let k = r .before .before .before in
-    (k .before .pre, read-fine (k .before .args .file .now) (r .read-into .ensures) (bytes k) (i .if1 .left))
+    (k .before .pre, read-fine (k .before .args .file .now) (r .read-into .ensures) (i .if1 .left))
 
 returns-2 : tie.Need-returns-2
 returns-2 c = let w = c .put-run .ensures in let i = c .before .before .before .before in (sheet-accepted (i .before .before .read-into .ensures) _ _ (i .if1 .left) w, (w .most, w .long))
