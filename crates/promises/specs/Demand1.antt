@@ -1,26 +1,38 @@
 -- Demand 1. "Every byte string given as a run file, and every run built by hand, gets its numbers or exactly one refusal of the paper's table, chosen by the paper's order of checks, with the fixed fields listed there; a lent buffer then holds what it held before."
 --
--- What it says: for each byte string, and for each run and index, there is exactly one answer that has its condition. The conditions stand row by row in `Because` (runfile) and `Due` (due), each saying that none before it holds. The numbers are those of the paper's table and 15 of request C-11, the fields under a refusal are the fixed ones, and a refused write or sheet leaves the buffer as it was.
+-- What it says: for each byte string, and for each run and index, there is exactly one answer that has its condition. The conditions of a byte string and of a run built by hand are rows of a table (`records` `Meaning`, `run` `Checks`), and the answer is that of the first row that holds (`table` `Table`); `words` says the same record by record. Those of an index stand in `Due` (due), each saying that none before it holds. The numbers are those of the paper's table and 15 of request C-11, the fields under a refusal are the fixed ones, and a refused write or sheet leaves the buffer as it was.
 -- What it does not say: what a program reads and prints. No contract can; the comparison with the second program holds it.
 use mathlib.Core.Path.{_≡_, refl, sym, ap, _∙_, subst}
 use mathlib.Core.List.{List, [], _∷_, _++_}
-use mathlib.Core.Logic.{_⊎_, inl, inr}
+use mathlib.Core.Logic.{_⊎_, inl, inr, _↔_}
 use Prim.Native.Nat.{ℕ, _<_, _≤_}
 use native.Mathlib.Decide.{decLt}
 use native.Mathlib.Omega.{arith}
+use lib.Dec.{T}
 use lib.ListN.{length, drop}
 use Rattle.exact.specs.Value.{nought}
 use Rattle.plain.specs.declared.Printed.{Printed}
 use Rattle.run.specs.Run.{zeros}
+use Rattle.run.specs.Checks as C
 use Rattle.run.specs.Checks.{verdict}
 use Rattle.run.specs.declared.Run.{Run}
-use Rattle.reader.specs.Meaning.{meaning}
+use Rattle.table.specs.Table.{Row, Given, given-at, First, given}
+use Rattle.table.specs.Laws.{exists, first-given, first-exactly}
+use Rattle.records.specs.Record.{its}
+use Rattle.records.specs.Meaning.{last-rows, refusals}
+use Rattle.records.specs.Sound.{clean}
+use Rattle.records.specs.FirstFault.{FaultAt, in-words}
+use Rattle.format.specs.Format as F
+use Rattle.format.specs.UpTo as U
+use Rattle.record.specs.Kinds.{run-file}
+use Rattle.reader.specs.Meaning as M
+use Rattle.reader.specs.Meaning.{meaning, FileDue, CloseDue}
+use Rattle.reader.specs.Once.{meaning-due, one-meaning, close-due, one-close}
 use Rattle.writer.specs.File.{written, buffer-after}
-use Rattle.runfile.specs.Because.{Because}
-use Rattle.runfile.specs.Sentences.{sentence, only}
 use Rattle.averages.specs.Averages.{AveragesDue}
 use Rattle.averages.specs.Once.{one-averages}
-use Rattle.due.specs.Due.{refused, only-width, Due, no-run, below-zero, one-cycle, given, several, one-line}
+use Rattle.due.specs.Due as D
+use Rattle.due.specs.Due.{refused, only-width, Due, no-run, below-zero, one-cycle, several, one-line}
 use Rattle.due.specs.Once.{one-answer}
 use Rattle.due.specs.declared.Answer.{Answer}
 use Rattle.due.specs.declared.Index.{Index}
@@ -28,7 +40,7 @@ use Rattle.sheet_text.specs.Sheet.{SheetDue, PrintDue, fits, short}
 use Rattle.sheet_text.specs.Once.{one-sheet, one-print}
 use Rattle.promises.specs.Exists.{some-answer}
 use Rattle.promises.specs.Sheets.{some-averages, some-sheet}
-use Rattle.promises.specs.Numbers.{verdict-ind, read, stands-ind, flat-index, write-ind, write-none}
+use Rattle.promises.specs.Numbers.{verdict-ind, file-most, file-zeros, stands-ind, flat-index, write-ind, write-none}
 
 -- exactly one has the property
 pub record ExactlyOne {A : Type 0} (P : A → Type 0) : Type 0 where
@@ -57,10 +69,16 @@ pub record Print : Type 0 where
 
 pub record Answered : Type 0 where
   -- a byte string
-  pub file : (s : List ℕ) → ExactlyOne (Because s)
+  pub file : (s : List ℕ) → ExactlyOne (FileDue s)
+  pub words : (s : List ℕ) (k l : ℕ) → First (refusals (F.file run-file s)) (given-at k l)
+      ↔ (FaultAt [] (F.file run-file s .records) k l ⊎ (T (clean [] (its (F.file run-file s))) × First (last-rows (F.file run-file s)) (given-at k l)))
   pub file-number : (s : List ℕ) → meaning s .number ≤ 10
   pub file-refused : (s : List ℕ) → (meaning s .number ≡ 0 → ⊥) → meaning s .run ≡ zeros
+  -- the same, read up to the close: where it ends is told, and 8 does not arise
+  pub to-close : (s : List ℕ) → ExactlyOne (CloseDue s)
+  pub no-eight : (s : List ℕ) → M.to-close s .number ≡ 8 → ⊥
   -- a run built by hand
+  pub checks : (r : Run) → ExactlyOne (First (C.checks r))
   pub index : (which : Index) (r : Run) → ExactlyOne (Due which r)
   pub index-number : (which : Index) (r : Run) (a : Answer) → Due which r a → Among (a .number) (0 ∷ 3 ∷ 5 ∷ 9 ∷ 10 ∷ 11 ∷ 12 ∷ 13 ∷ 15 ∷ [])
   pub index-fixed : (which : Index) (r : Run) (a : Answer) → Due which r a → Fixed a
@@ -83,8 +101,8 @@ number-among {r = r} (no-run n e) =
     subst IndexNumber (sym (ap (λ (a : Answer). a .number) e)) (verdict-ind r IndexNumber (inl refl) (inr (inl refl)) (inr (inr (inl refl))) (inr (inr (inr (inl refl)))) (inr (inr (inr (inr (inl refl))))))
 number-among (below-zero v b e) = inr (inr (inr (inr (inr (inr (inr (inr (inl (ap (λ (a : Answer). a .number) e)))))))))
 number-among (one-cycle v n o e) = inr (inr (inr (inr (inr (inr (inr (inl (ap (λ (a : Answer). a .number) e))))))))
-number-among (given v n o (several w z h m f e)) = inr (inr (inr (inr (inr (inr (inl (ap (λ (a : Answer). a .number) e)))))))
-number-among (given v n o (one-line L w z h f s)) = stands-ind s IndexNumber (inl refl) (inr (inr (inr (inr (inr (inl refl))))))
+number-among (D.given v n o (several w z h m f e)) = inr (inr (inr (inr (inr (inr (inl (ap (λ (a : Answer). a .number) e)))))))
+number-among (D.given v n o (one-line L w z h f s)) = stands-ind s IndexNumber (inl refl) (inr (inr (inr (inr (inr (inl refl))))))
 
 -- the fields of an index: under 12 and more
 more : {a : Answer} → 12 ≤ a .number → (a .number ≡ 12 → a ≡ only-width (a .width)) → (a .number ≡ 13 → a ≡ refused 13 0) → (a .number ≡ 15 → a ≡ refused 15 0) → Fixed a
@@ -108,10 +126,10 @@ fixed {a = a} (below-zero v b e) =
 fixed {a = a} (one-cycle v n o e) =
     let k : a .number ≡ 13 = ap (λ (a : Answer). a .number) e in
     more (omega arith) (λ i. absurd (omega arith)) (λ _. e) (λ i. absurd (omega arith))
-fixed {a = a} (given v n o (several w z h m f e)) =
+fixed {a = a} (D.given v n o (several w z h m f e)) =
     let k : a .number ≡ 12 = ap (λ (a : Answer). a .number) e in
     more (omega arith) (λ _. e) (λ i. absurd (omega arith)) (λ i. absurd (omega arith))
-fixed (given v n o (one-line L w z h f s)) =
+fixed (D.given v n o (one-line L w z h f s)) =
     record {
       accepted = λ _. s .place;
       flat = λ i. (s .place, flat-index s i .0, flat-index s i .1);
@@ -138,9 +156,13 @@ refused-print (short t a l e f) n = (e, f)
 
 pub demand-1 : Answered
 demand-1 = record {
-  file = λ s. record { one = meaning s; is = sentence s; only = λ a b. only b };
-  file-number = λ s. read (sentence s) .number;
-  file-refused = λ s. read (sentence s) .run;
+  file = λ s. record { one = meaning s; is = meaning-due s; only = λ a h. one-meaning s h (meaning-due s) };
+  words = λ s. in-words (F.file run-file s);
+  file-number = file-most;
+  file-refused = file-zeros;
+  to-close = λ s. record { one = M.to-close s; is = close-due s; only = λ a h. one-close s h (close-due s) };
+  no-eight = λ s e. U.no-eight run-file s _ (first-exactly (refusals (F.up-to-close run-file s)) _ .1 (λ i. given-at (sym e i) (M.to-close s .place)));
+  checks = λ r. record { one = given (C.checks r); is = exists (C.checks r); only = λ a h. first-given (C.checks r) h };
   index = λ which r. let d = some-answer which r in record { one = d .0; is = d .1; only = λ a e. one-answer which r e (d .1) };
   index-number = λ which r a. number-among;
   index-fixed = λ which r a. fixed;

@@ -19,11 +19,13 @@ use Rattle.run.specs.Checks.{verdict}
 use Rattle.run.specs.Checked.{Checked, checked, verdict-fine}
 use Rattle.run.specs.declared.Run.{Run}
 use Rattle.groups.specs.Sums.{up-sum, down-sum, both-sum}
-use Rattle.reader.specs.Meaning.{meaning}
+use Rattle.table.specs.Table.{given-at}
+use Rattle.reader.specs.Meaning.{as-answer, meaning}
+use Rattle.reader.specs.declared.Answer as R
 use Rattle.writer.specs.File.{file}
-use Rattle.runfile.specs.Trimmed.{trimmed}
-use Rattle.runfile.specs.Trimmed as read
-use Rattle.runfile.specs.Back.{TrimmedOf, trip, trimmed-is}
+use Rattle.records.specs.Travel.{trimmed, TrimmedOf, trimmed-is}
+use Rattle.reader.specs.ReadFine as read
+use Rattle.runfile.specs.Back.{trip}
 use Rattle.runfile.specs.RecordLaws.{Bytes}
 use Rattle.runfile.specs.Accepted.{Rewritten, rewritten}
 use Rattle.averages.specs.Averages as averages
@@ -187,8 +189,8 @@ demand-2 = record {
         front-single = λ w z. front-single (proper-means (checked r e)) (λ i h. refl);
         below-zero = the-negative r e;
         negative = fifteen r e;
-        back = trip r v;
+        back = ap as-answer (trip r v);
         same = trimmed-is r v;
       };
-  rewritten = rewritten;
+  rewritten = λ s r ok e. rewritten s r ok (λ i. record { told = given-at (ap (λ (a : R.Answer). a .number) e i) (ap (λ (a : R.Answer). a .place) e i); run = ap (λ (a : R.Answer). a .run) e i });
 }

@@ -2,6 +2,7 @@
 use mathlib.Core.Path.{_≡_, refl, sym, ap, _∙_, subst}
 use mathlib.Core.Bool.{cond}
 use mathlib.Core.List.{List, _++_}
+use mathlib.Core.Option.{Option, none, some}
 use Prim.Native.Nat.{ℕ, _*_, _<_, _≤_}
 use native.Mathlib.Omega.{arith}
 use lib.Dec.{ltb, eqb, eqb→eq}
@@ -14,58 +15,44 @@ use Rattle.exact.specs.Rounding.{Nearest}
 use Rattle.exact.specs.RoundingLaws.{some-nearest}
 use Rattle.exact.specs.Once.{one-nearest}
 use Rattle.exact.specs.declared.Fraction.{Fraction}
-use Rattle.limits.specs.Limits.{sizes}
+use Rattle.table.specs.Table.{accepted, told-or, given}
 use Rattle.run.specs.Run.{input, zeros}
-use Rattle.run.specs.Limits.{fails-at}
-use Rattle.run.specs.Checks.{fine, shape, verdict}
+use Rattle.run.specs.Checks.{three, five, nine, ten, verdict}
 use Rattle.run.specs.declared.Run.{Run}
-use Rattle.run.specs.declared.Verdict.{Verdict}
-use Rattle.run.specs.declared.Rule.the-variants.{Limits, Rising, Calm}
-use Rattle.reader.specs.Meaning.{refused}
-use Rattle.reader.specs.declared.Answer.{Answer}
-use Rattle.writer.specs.File.{file, written, buffer-after}
+use Rattle.records.specs.Record.{its}
+use Rattle.records.specs.Meaning.{run-of}
+use Rattle.records.specs.Numbers.{number-most}
+use Rattle.format.specs.Format.{file}
+use Rattle.record.specs.Kinds.{run-file}
+use Rattle.reader.specs.Meaning.{meaning}
+use Rattle.writer.specs.File as W
+use Rattle.writer.specs.File.{written, buffer-after}
 use Rattle.writer.specs.declared.Written.{Written}
-use Rattle.runfile.specs.Because.{Because, cut-first, cut-later, unknown-first, unknown-later, sizes-out, place-out, number-out, second-time, missing, byte-after, not-rising, scattered, accepted}
 use Rattle.band.specs.Line.{Line}
-use Rattle.due.specs.Due.{span, Stands, several, one-line, Due, no-run, below-zero, one-cycle, given}
+use Rattle.due.specs.Due as D
+use Rattle.due.specs.Due.{span, Stands, several, one-line, Due, no-run, below-zero, one-cycle}
 use Rattle.due.specs.Once.{one-answer}
 use Rattle.due.specs.declared.Answer as told
 use Rattle.due.specs.declared.Index.the-variants as index
 
 -- ---- a run's check: 3, 5, 9, 10, or none
 pub verdict-ind : (r : Run) (P : ℕ → Type 0) → P 0 → P 3 → P 5 → P 9 → P 10 → P (verdict r .number)
-verdict-ind r P none three five nine ten =
-    let at : ℕ → ℕ → Verdict = λ number place. record { number = number; place = place } in
-    let Q : Verdict → Type 0 = λ v. P (v .number) in
-    let last = cond (ltb (fails-at Calm r) (r .m)) (at 10 (fails-at Calm r)) fine in
-    cond-ind (sizes (r .m) (r .n)) (cond (ltb (fails-at Limits r) (r .m)) (at 5 (fails-at Limits r)) (shape r)) (at 3 0) Q
-    (λ _. cond-ind (ltb (fails-at Limits r) (r .m)) (at 5 (fails-at Limits r)) (shape r) Q (λ _. five)
-    (λ _. cond-ind (ltb (fails-at Rising r) (r .m)) (at 9 (fails-at Rising r)) last Q (λ _. nine)
-    (λ _. cond-ind (ltb (fails-at Calm r) (r .m)) (at 10 (fails-at Calm r)) fine Q (λ _. ten) (λ _. none))))
-    (λ _. three)
+unfolding given
+verdict-ind r P p0 p3 p5 p9 p10 = go (three r .found) (five r .found) (nine r .found) (ten r .found)
+  where
+    go : (a b c d : Option ℕ) → P (told-or 3 a (told-or 5 b (told-or 9 c (told-or 10 d accepted))) .number)
+    go (some p) b c d = p3
+    go none (some p) c d = p5
+    go none none (some p) d = p9
+    go none none none (some p) = p10
+    go none none none none = p0
 
 -- ---- a file: at most 10, and under a refusal the run of zeros
-pub record Read (a : Answer) : Type 0 where
-  pub number : a .number ≤ 10
-  pub run : (a .number ≡ 0 → ⊥) → a .run ≡ zeros
+pub file-most : (s : List ℕ) → meaning s .number ≤ 10
+file-most s = number-most (file run-file s)
 
-refuses : {a : Answer} (number place : ℕ) → number ≤ 10 → a ≡ refused number place → Read a
-refuses number place h e = record { number = rw e h; run = λ _. ap (λ (a : Answer). a .run) e }
-
-pub read : {s : List ℕ} {a : Answer} → Because s a → Read a
-read (cut-first _ e) = refuses 1 0 (omega arith) e
-read (cut-later {p = p} _ _ e) = refuses 1 p (omega arith) e
-read (unknown-first _ e) = refuses 2 0 (omega arith) e
-read (unknown-later {p = p} _ _ e) = refuses 2 p (omega arith) e
-read (sizes-out _ _ e) = refuses 3 0 (omega arith) e
-read (place-out {p = p} _ _ e) = refuses 4 p (omega arith) e
-read (number-out {p = p} _ _ _ e) = refuses 5 p (omega arith) e
-read (second-time {p = p} _ _ _ _ e) = refuses 6 p (omega arith) e
-read (missing {p = p} _ _ e) = refuses 7 p (omega arith) e
-read (byte-after {end = end} _ _ _ e) = refuses 8 end (omega arith) e
-read (not-rising _ _ e) = refuses 9 _ (omega arith) e
-read (scattered _ _ _ e) = refuses 10 _ (omega arith) e
-read (accepted _ _ _ e) = record { number = rw e (omega arith); run = λ n. absurd (n (ap (λ (a : Answer). a .number) e)) }
+pub file-zeros : (s : List ℕ) → (meaning s .number ≡ 0 → ⊥) → meaning s .run ≡ zeros
+file-zeros s n = cond-ind (eqb (meaning s .number) 0) (run-of (its (file run-file s))) zeros (λ (r : Run). r ≡ zeros) (λ t. absurd (n (eqb→eq (meaning s .number) 0 t))) (λ _. refl)
 
 -- ---- an index with its line: 0 or 11, and under 11 the index is 0/1
 module _ {r : Run} {L : Line} {w z : ℕ} {a : told.Answer} (s : Stands r L w z a) where
@@ -98,8 +85,8 @@ module _ (r : Run) (e : verdict r .number ≡ 0) (a : told.Answer) where
   the-negative (no-run n _) number = absurd (n e)
   the-negative (below-zero _ b _) number = (b .at, b .within, b .negative)
   the-negative (one-cycle _ _ o _) number = absurd (o .0)
-  the-negative (given _ _ _ (several w z _ _ _ q)) number = let z : _≡_ {A = ℕ} 12 15 = sym (ap (λ (a : told.Answer). a .number) q) ∙ number in absurd (omega arith)
-  the-negative (given _ _ _ (one-line L w z _ _ s)) number = absurd (stands-ind s (λ n. n ≡ 15 → ⊥) (λ z. omega arith) (λ z. omega arith) number)
+  the-negative (D.given _ _ _ (several w z _ _ _ q)) number = let z : _≡_ {A = ℕ} 12 15 = sym (ap (λ (a : told.Answer). a .number) q) ∙ number in absurd (omega arith)
+  the-negative (D.given _ _ _ (one-line L w z _ _ s)) number = absurd (stands-ind s (λ n. n ≡ 15 → ⊥) (λ z. omega arith) (λ z. omega arith) number)
 
   pub fifteen : Due index.Zero r a → (i : ℕ) → i < r .m → input r i <ℤ pos 0 → a .number ≡ 15
   fifteen due i h l = ap (λ (a : told.Answer). a .number) (one-answer index.Zero r due (below-zero e (record { asked = tt; at = i; within = h; negative = l }) refl))
@@ -107,7 +94,7 @@ module _ (r : Run) (e : verdict r .number ≡ 0) (a : told.Answer) where
 -- ---- a buffer lent to the writer: what the check says, or 14
 module _ (r : Run) (buffer : List ℕ) where
   abbrev full : Written
-  full = record { number = 0; place = 0; len = length (file r) }
+  full = record { number = 0; place = 0; len = length (W.file r) }
 
   abbrev short : Written
   short = record { number = 14; place = 0; len = 0 }
@@ -116,7 +103,7 @@ module _ (r : Run) (buffer : List ℕ) where
   unchecked = record { number = verdict r .number; place = verdict r .place; len = 0 }
 
   written-ind : (P : Written → Type 0) → P full → P short → P unchecked → P (written r buffer)
-  written-ind P a b c = cond-ind (eqb (verdict r .number) 0) (cond (ltb (length buffer) (length (file r))) short full) unchecked P (λ _. cond-ind (ltb (length buffer) (length (file r))) short full P (λ _. b) (λ _. a)) (λ _. c)
+  written-ind P a b c = cond-ind (eqb (verdict r .number) 0) (cond (ltb (length buffer) (length (W.file r))) short full) unchecked P (λ _. cond-ind (ltb (length buffer) (length (W.file r))) short full P (λ _. b) (λ _. a)) (λ _. c)
 
   pub write-ind : (P : ℕ → Type 0) → P 0 → P 3 → P 5 → P 9 → P 10 → P 14 → P (written r buffer .number)
   write-ind P none three five nine ten fourteen = written-ind (λ w. P (w .number)) none fourteen (verdict-ind r P none three five nine ten)
@@ -124,5 +111,5 @@ module _ (r : Run) (buffer : List ℕ) where
   pub write-none : (written r buffer .number ≡ 0 → ⊥) → (written r buffer .len ≡ 0) × (buffer-after r buffer ≡ buffer)
   write-none n = (
     written-ind (λ w. (w .number ≡ 0 → ⊥) → w .len ≡ 0) (λ n. absurd (n refl)) (λ _. refl) (λ _. refl) n,
-    cond-ind (eqb (written r buffer .number) 0) (file r ++ drop (length (file r)) buffer) buffer (λ b. b ≡ buffer) (λ t. absurd (n (eqb→eq (written r buffer .number) 0 t))) (λ _. refl),
+    cond-ind (eqb (written r buffer .number) 0) (W.file r ++ drop (length (W.file r)) buffer) buffer (λ b. b ≡ buffer) (λ t. absurd (n (eqb→eq (written r buffer .number) 0 t))) (λ _. refl),
   )
