@@ -5,6 +5,7 @@ use lib.Dec.{T}
 use lib.IntN.{pos}
 use mir.Facts.{and-yes}
 use Rattle.whole.specs.Every.{every, first-not}
+use Rattle.table.specs.Table.{given}
 use Rattle.run.specs.Sample.{filled, cycles, written-out}
 use Rattle.groups.specs.Sums.{sum-to}
 use Rattle.band.specs.Candidate.{one, up, down}
@@ -64,7 +65,7 @@ all-certified (f ∷ fs) cs = certifies f (cs .0) && all-certified fs (cs .1)
 
 -- computed
 tested : T (all-certified figures certificates)
-unfolding filled cycles written-out sum-to every first-not divisor
+unfolding filled cycles written-out sum-to every first-not given divisor
 tested = tt
 
 -- ---- what it shows

@@ -57,17 +57,17 @@ file-zeros s n = cond-ind (eqb (meaning s .number) 0) (run-of (its (file run-fil
 -- ---- an index with its line: 0 or 11, and under 11 the index is 0/1
 module _ {r : Run} {L : Line} {w z : ℕ} {a : told.Answer} (s : Stands r L w z a) where
   pub stands-ind : (P : ℕ → Type 0) → P 0 → P 11 → P (a .number)
-  stands-ind P none flat = go (ℤ-discrete (L .a) (pos 0))
+  stands-ind P sloped flat = go (ℤ-discrete (L .a) (pos 0))
     where
       go : Dec (L .a ≡ pos 0) → P (a .number)
       go (yes e) = subst P (sym (s .flat e)) flat
-      go (no d) = subst P (sym (s .sloping d)) none
+      go (no d) = subst P (sym (s .sloping d)) sloped
 
   pub flat-index : a .number ≡ 11 → (a .index ≡ nought) × (a .thousandths ≡ 0)
   flat-index e = go (ℤ-discrete (L .a) (pos 0))
     where
-      none : L .a ≡ pos 0 → z * (natAbs (L .a) * span r) ≡ 0
-      none d = ap (λ (t : ℤ). z * (natAbs t * span r)) d ∙ times z (span r)
+      nothing : L .a ≡ pos 0 → z * (natAbs (L .a) * span r) ≡ 0
+      nothing d = ap (λ (t : ℤ). z * (natAbs t * span r)) d ∙ times z (span r)
         where
           times : (z n : ℕ) → z * (0 * n) ≡ 0
           times z n = omega arith
@@ -76,7 +76,7 @@ module _ {r : Run} {L : Line} {w z : ℕ} {a : told.Answer} (s : Stands r L w z 
       zero-percent {f} {t} d n = let m = subst (λ (f : Fraction). Nearest (100000 * natAbs (f .num)) (f .den) t) d n in one-nearest m (some-nearest 0 1 (omega arith) .1)
 
       go : Dec (L .a ≡ pos 0) → (a .index ≡ nought) × (a .thousandths ≡ 0)
-      go (yes d) = let i = s .index .none (none d) in (i, zero-percent i (s .thousandths))
+      go (yes d) = let i = s .index .none (nothing d) in (i, zero-percent i (s .thousandths))
       go (no d) = let n = s .sloping d in absurd (omega arith)
 
 -- ---- 15, and a negative input
@@ -106,7 +106,7 @@ module _ (r : Run) (buffer : List ℕ) where
   written-ind P a b c = cond-ind (eqb (verdict r .number) 0) (cond (ltb (length buffer) (length (W.file r))) short full) unchecked P (λ _. cond-ind (ltb (length buffer) (length (W.file r))) short full P (λ _. b) (λ _. a)) (λ _. c)
 
   pub write-ind : (P : ℕ → Type 0) → P 0 → P 3 → P 5 → P 9 → P 10 → P 14 → P (written r buffer .number)
-  write-ind P none three five nine ten fourteen = written-ind (λ w. P (w .number)) none fourteen (verdict-ind r P none three five nine ten)
+  write-ind P p0 p3 p5 p9 p10 p14 = written-ind (λ w. P (w .number)) p0 p14 (verdict-ind r P p0 p3 p5 p9 p10)
 
   pub write-none : (written r buffer .number ≡ 0 → ⊥) → (written r buffer .len ≡ 0) × (buffer-after r buffer ≡ buffer)
   write-none n = (
