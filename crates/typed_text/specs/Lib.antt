@@ -1,1 +1,11 @@
 pub mod Typed
+pub mod Method
+pub mod SurveyLaws
+pub mod HeardLaws
+pub mod SeekLaws
+pub mod Collect
+pub mod CollectLaws
+pub mod TableLaws
+pub mod GatherLaws
+pub mod OpenedLaws
+pub mod TypedLaws
