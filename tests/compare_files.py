@@ -1,6 +1,6 @@
 """Holds what the program `answers` prints of run files and of runs built by hand to what second/runfile.py says, byte for byte."""
 import make_files
-from requests import READ, WRITE, file_request, lent, run_request
+from requests import CLOSE, READ, WRITE, file_request, lent, run_request
 from second import runfile
 
 ROOM = 1840
@@ -11,11 +11,18 @@ def write_lines(run, room):
     return ['write %d %d %d' % (number, place, written), buffer.hex()]
 
 
+def run_lines(run):
+    return ['run %d %d' % (run.m, run.n), 'x ' + ' '.join(map(str, run.inputs())), 'y ' + ' '.join(map(str, run.readings()))]
+
+
 def file_lines(data, room=ROOM):
     number, place, run = runfile.answer(data)
-    lines = ['read %d %d' % (number, place), 'run %d %d' % (run.m, run.n)]
-    lines += ['x ' + ' '.join(map(str, run.inputs())), 'y ' + ' '.join(map(str, run.readings()))]
-    return lines + (write_lines(run, room) if number == 0 else [])
+    return ['read %d %d' % (number, place)] + run_lines(run) + (write_lines(run, room) if number == 0 else [])
+
+
+def close_lines(data):
+    number, place, end, run = runfile.to_close(data)
+    return ['close %d %d %d' % (number, place, end)] + run_lines(run)
 
 
 def paired_by_place(data):
@@ -85,22 +92,25 @@ def round_trip(run, due, printed):
 def compare(run):
     files = [data for data in make_files.files() if len(data) <= 4096]
     runs = list(make_files.hand_runs())
-    due = [file_lines(data) for data in files] + [write_lines(*made) for made in runs]
+    closes = [data for data in files + [data + more for data in files[::7] for more in (b'\0', data[:40])] if len(data) <= 4096]
+    due = [file_lines(data) for data in files] + [write_lines(*made) for made in runs] + [close_lines(data) for data in closes]
     requests = [file_request(READ, data, ROOM) for data in files] + [run_request(WRITE, *made) for made in runs]
+    requests += [file_request(CLOSE, data, ROOM) for data in closes]
     printed = run('answers', b''.join(requests)).decode('ascii').split('\n')
     wrong, met, at = [], {}, 0
     for which, lines in enumerate(due):
         got = printed[at:at + len(lines)]
         at += len(lines)
         if got != lines:
-            what = 'file %d, %s' % (which, files[which][:60].hex()) if which < len(files) else 'run %d' % (which - len(files))
+            which -= len(files)
+            what = 'file %d, %s' % (which + len(files), files[which][:60].hex()) if which < 0 else 'run %d' % which if which < len(runs) else 'file up to its close %d, %s' % (which - len(runs), closes[which - len(runs)][:60].hex())
             wrong.append('answers of %s: printed %r, due %r' % (what, got[0][:80] if got else None, lines[0][:80]))
             break
         met.setdefault(lines[0].split()[0], {}).setdefault(int(lines[0].split()[1]), 0)
         met[lines[0].split()[0]][int(lines[0].split()[1])] += 1
     if not wrong and printed[at:] != ['']:
         wrong.append('answers printed more than is due')
-    for name, numbers in (('read', range(0, 11)), ('write', (0, 3, 5, 9, 10, 14))):
+    for name, numbers in (('read', range(0, 11)), ('write', (0, 3, 5, 9, 10, 14)), ('close', (0, 1, 2, 3, 4, 5, 6, 7, 9, 10))):
         wrong += ['no %s was answered with %d' % (name, number) for number in numbers if not met.get(name, {}).get(number)]
     trips = 0
     if not wrong:

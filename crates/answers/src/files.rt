@@ -73,11 +73,22 @@ fn put_sheet(page: &mut Page, at: &mut usize, s: &[u8], out: &mut [u8]) {
     trial::put_hex(page, at, out);
 }
 
-// The reader's answer where the kind is 0, else the sheet.
+fn put_close(page: &mut Page, at: &mut usize, s: &[u8]) {
+    let a = reader::read_to_close(s);
+    trial::put_bytes(page, at, b"close");
+    put_pair(page, at, a.number as u64, a.place as u64);
+    trial::put_space(page, at);
+    trial::put_count(page, at, a.end as u64);
+    trial::put_line_end(page, at);
+    let r = a.run;
+    put_run(page, at, r);
+}
+
+// The reader's answer where the kind is 0, the sheet where it is 2, else the answer up to the close.
 pub fn put_file(page: &mut Page, at: &mut usize, kind: u64, s: &[u8], out: &mut [u8]) {
-    if kind == 0 {
-        put_read(page, at, s, out);
-    } else {
-        put_sheet(page, at, s, out);
+    match kind {
+        0 => put_read(page, at, s, out),
+        2 => put_sheet(page, at, s, out),
+        _ => put_close(page, at, s),
     }
 }

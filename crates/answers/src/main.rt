@@ -6,6 +6,7 @@
 // 1 and a run: what writing it into the buffer gives.
 // 2 and a file: its sheet in the buffer.
 // 3 and a run: its averages and its indices; the buffer's length counts for nothing.
+// 4 and a file: the reader's answer up to the close, and where that ends; the buffer's length counts for nothing.
 mod files;
 mod runs;
 
@@ -40,7 +41,7 @@ fn answer_file(page: &mut Page, at: &mut usize, kind: u64, out: &mut [u8]) -> bo
 
 fn answer_into(page: &mut Page, at: &mut usize, kind: u64, out: &mut [u8]) -> bool {
     match kind {
-        0 | 2 => answer_file(page, at, kind, out),
+        0 | 2 | 4 => answer_file(page, at, kind, out),
         1 => {
             files::put_write(page, at, next_run(), out);
             true
