@@ -1,10 +1,13 @@
--- How a refused text is told: `refused`, the number, `line` and the line's number; on a second line the sentence of the number (docs/TEXT.md). Definitions only.
+-- How a refused text is told: `refused`, the number, `line` and the line's number; on a second line the sentence of the number; on a third what more is told (docs/TEXT.md). Definitions only.
 use mathlib.Core.Bool.{cond}
 use mathlib.Core.List.{List, [], _∷_, _++_}
 use Prim.Native.Nat.{ℕ}
 use lib.Dec.{eqb}
 use Rattle.plain.specs.Plain.{line-feed, refused-word}
 use Rattle.plain.specs.Digits.{decimal}
+use Rattle.spoken.specs.Said.{point-word, cycle-word, stroke-word, spaced}
+use Rattle.detail.specs.declared.Detail.{Detail}
+use Rattle.detail.specs.declared.Detail.the-variants.{Nothing, Word, NoWord, Earlier, Input, Reading, Apart}
 
 -- " line "
 abbrev pub line-word : List ℕ
@@ -65,6 +68,65 @@ sentence number =
     (cond (eqb number 50) sentence-50
     [])))))))))
 
--- the two lines
-abbrev pub refusal : (number line : ℕ) → List ℕ
-refusal number line = refused-word ++ (decimal number ++ (line-word ++ (decimal line ++ (line-feed ∷ sentence number))))
+-- ---- what more is told
+-- the words of its line, each by its name
+abbrev pub line-name : List ℕ
+line-name = 108 ∷ 105 ∷ 110 ∷ 101 ∷ []
+
+abbrev pub record-name : List ℕ
+record-name = 114 ∷ 101 ∷ 99 ∷ 111 ∷ 114 ∷ 100 ∷ []
+
+abbrev pub word-name : List ℕ
+word-name = 119 ∷ 111 ∷ 114 ∷ 100 ∷ []
+
+abbrev pub is-name : List ℕ
+is-name = 105 ∷ 115 ∷ []
+
+abbrev pub not-name : List ℕ
+not-name = 110 ∷ 111 ∷ 116 ∷ []
+
+abbrev pub understood-name : List ℕ
+understood-name = 117 ∷ 110 ∷ 100 ∷ 101 ∷ 114 ∷ 115 ∷ 116 ∷ 111 ∷ 111 ∷ 100 ∷ []
+
+abbrev pub missing-name : List ℕ
+missing-name = 109 ∷ 105 ∷ 115 ∷ 115 ∷ 105 ∷ 110 ∷ 103 ∷ []
+
+abbrev pub told-name : List ℕ
+told-name = 116 ∷ 111 ∷ 108 ∷ 100 ∷ []
+
+abbrev pub it-name : List ℕ
+it-name = 105 ∷ 116 ∷ []
+
+abbrev pub first-name : List ℕ
+first-name = 102 ∷ 105 ∷ 114 ∷ 115 ∷ 116 ∷ []
+
+abbrev pub and-name : List ℕ
+and-name = 97 ∷ 110 ∷ 100 ∷ []
+
+abbrev pub lie-name : List ℕ
+lie-name = 108 ∷ 105 ∷ 101 ∷ []
+
+abbrev pub apart-name : List ℕ
+apart-name = 97 ∷ 112 ∷ 97 ∷ 114 ∷ 116 ∷ []
+
+-- a label counts lines or records: `noun` says which
+abbrev pub detail-words : (noun : List ℕ) → Detail → List (List ℕ)
+detail-words noun Nothing = []
+detail-words noun (Word k) = word-name ∷ decimal k ∷ is-name ∷ not-name ∷ understood-name ∷ []
+detail-words noun (NoWord k) = word-name ∷ decimal k ∷ is-name ∷ missing-name ∷ []
+detail-words noun (Earlier l) = noun ∷ decimal l ∷ told-name ∷ it-name ∷ first-name ∷ []
+detail-words noun (Input i) = point-word ∷ decimal i ∷ is-name ∷ missing-name ∷ []
+detail-words noun (Reading s c i) = stroke-word s ∷ point-word ∷ decimal i ∷ cycle-word ∷ decimal c ∷ is-name ∷ missing-name ∷ []
+detail-words noun (Apart h l) = (noun ++ (115 ∷ [])) ∷ decimal h ∷ and-name ∷ decimal l ∷ lie-name ∷ apart-name ∷ []
+
+-- on a line; nothing has none
+abbrev pub line-if : List (List ℕ) → List ℕ
+line-if [] = []
+line-if (w ∷ ws) = spaced (w ∷ ws)
+
+abbrev pub detail-line : (noun : List ℕ) → Detail → List ℕ
+detail-line noun d = line-if (detail-words noun d)
+
+-- the two lines, and one more where more is told
+abbrev pub refusal : (number line : ℕ) → Detail → List ℕ
+refusal number line d = refused-word ++ (decimal number ++ (line-word ++ (decimal line ++ (line-feed ∷ (sentence number ++ detail-line line-name d)))))

@@ -1,11 +1,11 @@
 // A text as lines, a line as words, a word as a number.
-ghost use mathlib.Core.List.{_∷_};
+ghost use mathlib.Core.List.{[], _∷_};
 ghost use mathlib.Core.Path.{_≡_};
 ghost use Prim.Native.Nat.{_+_, _-_, _<_, _≤_};
 ghost use lib.Dec.{T};
-ghost use lib.ListN.{length, take, drop};
+ghost use lib.ListN.{length, getD, take, drop};
 ghost use Rattle.words.specs.Words as W;
-ghost use Rattle.words.specs.Words.{lines, words, numeral, value, unsigned};
+ghost use Rattle.words.specs.Words.{lines, words, numeral, value, unsigned, unmarked};
 ghost use Rattle.words.specs.WordLaws.{Begins, Ended};
 
 fn is_blank(b: u8) -> bool
@@ -179,6 +179,45 @@ pub fn line_end(s: &[u8], at: usize) -> usize
         i += 1;
     }
     i
+}
+
+// Line k of a text, counted from 0; of no bytes where there are fewer.
+pub fn line<'a>(s: &'a [u8], k: usize) -> &'a [u8]
+    ensures { λ r. ⌜ now r ≡ getD (lines (now (s .entry))) k [] ⌝ }
+{
+    let mut left = k;
+    let mut at = 0;
+    while at < s.len() {
+        let end = line_end(s, at);
+        if left == 0 {
+            return &s[at..end];
+        }
+        left -= 1;
+        at = end + 1;
+    }
+    &s[..0]
+}
+
+fn has_mark(s: &[u8]) -> bool
+    ensures { λ r. ⌜ r ≡ W.marked (now (s .entry)) ⌝ }
+{
+    if s.len() < 3 {
+        return false;
+    }
+    if s[0] != 239 {
+        return false;
+    }
+    if s[1] != 187 {
+        return false;
+    }
+    s[2] == 191
+}
+
+// A text without the byte-order mark that may stand in front of it.
+pub fn without_mark<'a>(s: &'a [u8]) -> &'a [u8]
+    ensures { λ r. ⌜ now r ≡ unmarked (now (s .entry)) ⌝ }
+{
+    if has_mark(s) { &s[3..] } else { s }
 }
 
 // How many lines a text has.
