@@ -4,3 +4,4 @@ pub mod LineBack
 pub mod Listed
 pub mod Back
 pub mod Witness
+pub mod Written
