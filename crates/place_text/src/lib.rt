@@ -1,0 +1,192 @@
+// Which record the place of a refused run file means, as bytes.
+ghost use mathlib.Core.List.{[]};
+ghost use mathlib.Core.Path.{_≡_};
+ghost use Prim.Native.Nat.{_<_, _≤_};
+ghost use lib.ListN.{length};
+ghost use Rattle.plain.specs.Grown.{Put};
+ghost use Rattle.plain.specs.Plain as P;
+ghost use Rattle.reader.specs.Meaning.{meaning};
+ghost use Rattle.record.specs.Kinds.{as-record};
+ghost use Rattle.place_text.specs.Place as S;
+use detail::Detail;
+use held::record_at;
+use plain::Printed;
+use plain::put_bytes;
+use plain::put_decimal;
+use record::Found;
+use record::Record;
+
+// ---- the records, numbered
+fn is_close(r: Record) -> bool {
+    match r {
+        Record::Opening { m: _, n: _ } => false,
+        Record::Point { index: _, x: _ } => false,
+        Record::Value {
+            stroke: _,
+            cycle: _,
+            index: _,
+            y: _,
+        } => false,
+        Record::Close => true,
+    }
+}
+
+// Where the walk over the records is: the number of the record at `at`; `more` is 1 while there is one to look at.
+struct Step {
+    more: usize,
+    k: usize,
+    at: usize,
+}
+
+// Puts down the number of the record at `at`, and goes behind it.
+fn pass(
+    s: &[u8],
+    labels: &mut [usize; 231],
+    y: &mut [i64; 220],
+    k: usize,
+    at: usize,
+) -> Step {
+    match record_at(s, at, at == 0) {
+        Found::Item { record, next } => {
+            detail::mark(labels, y, record, k);
+            if is_close(record) {
+                Step {
+                    more: 0,
+                    k: k + 1,
+                    at: next,
+                }
+            } else {
+                Step {
+                    more: 1,
+                    k: k + 1,
+                    at: next,
+                }
+            }
+        }
+        Found::Cut => Step { more: 0, k, at },
+        Found::Unknown => Step { more: 0, k, at },
+    }
+}
+
+// The numbers of the records that stand before an offset, counted from 1, and the counts of the readings among them. Answers the number behind the last of them.
+fn number_records(
+    s: &[u8],
+    limit: usize,
+    labels: &mut [usize; 231],
+    y: &mut [i64; 220],
+) -> usize {
+    let mut t = Step {
+        more: 1,
+        k: 1,
+        at: 0,
+    };
+    while limits::both(0 < t.more, t.at < limit) {
+        t = pass(s, labels, y, t.k, t.at);
+    }
+    t.k
+}
+
+// ---- a record in words
+fn put_opening(out: &mut [u8; 831], at: usize, m: usize, n: usize) -> usize
+    requires { ⌜ length (now out) ≡ 831 ⌝ }
+{
+    let points = put_bytes(out, at, b" points ");
+    let m_told = put_decimal(out, points, m as u64);
+    let cycles = put_bytes(out, m_told, b" cycles ");
+    put_decimal(out, cycles, n as u64)
+}
+
+fn put_point(out: &mut [u8; 831], at: usize, i: usize) -> usize
+    requires { ⌜ length (now out) ≡ 831 ⌝ }
+{
+    let point = put_bytes(out, at, b" point ");
+    put_decimal(out, point, i as u64)
+}
+
+fn put_reading(out: &mut [u8; 831], at: usize, s: usize, c: usize, i: usize) -> usize
+    requires { ⌜ length (now out) ≡ 831 ⌝ }
+{
+    if s < 2 {
+        let space = plain::put_byte(out, at, b' ');
+        return spoken::put_reading_place(out, space, s, c, i);
+    }
+    let stroke = put_bytes(out, at, b" stroke ");
+    put_decimal(out, stroke, s as u64)
+}
+
+fn put_record(out: &mut [u8; 831], at: usize, r: Record) -> usize
+    requires { ⌜ length (now out) ≡ 831 ⌝ }
+{
+    match r {
+        Record::Opening { m, n } => put_opening(out, at, m, n),
+        Record::Point { index, x: _ } => put_point(out, at, index),
+        Record::Value {
+            stroke,
+            cycle,
+            index,
+            y: _,
+        } => put_reading(out, at, stroke, cycle, index),
+        Record::Close => put_bytes(out, at, b" close"),
+    }
+}
+
+fn put_kind(out: &mut [u8; 831], at: usize, kind: u8) -> usize
+    requires { ⌜ length (now out) ≡ 831 ⌝ }
+{
+    let word = put_bytes(out, at, b" kind ");
+    put_decimal(out, word, kind as u64)
+}
+
+// What stands at an offset.
+fn put_standing(out: &mut [u8; 831], at: usize, s: &[u8], place: usize) -> usize
+    requires { ⌜ length (now out) ≡ 831 ⌝ }
+{
+    match record_at(s, place, place == 0) {
+        Found::Item { record, next: _ } => put_record(out, at, record),
+        Found::Cut => {
+            if s.len() <= place {
+                put_bytes(out, at, b" not there")
+            } else {
+                put_bytes(out, at, b" cut short")
+            }
+        }
+        Found::Unknown => {
+            if s.len() <= place {
+                at
+            } else {
+                put_kind(out, at, s[place])
+            }
+        }
+    }
+}
+
+fn put_head(out: &mut [u8; 831], at: usize, k: usize) -> usize
+    requires { ⌜ length (now out) ≡ 831 ⌝ }
+{
+    let word = put_bytes(out, at, b"record ");
+    let told = put_decimal(out, word, k as u64);
+    plain::put_byte(out, told, b':')
+}
+
+// ---- what more is told
+fn first_told(s: &[u8], place: usize, labels: &[usize; 231]) -> Detail {
+    match record_at(s, place, false) {
+        Found::Item { record, next: _ } => match record {
+            Record::Opening { m: _, n: _ } => Detail::Nothing,
+            Record::Point { index: _, x: _ } => Detail::Earlier {
+                label: detail::label_of(labels, record),
+            },
+            Record::Value {
+                stroke: _,
+                cycle: _,
+                index: _,
+                y: _,
+            } => Detail::Earlier {
+                label: detail::label_of(labels, record),
+            },
+            Record::Close => Detail::Nothing,
+        },
+        Found::Cut => Detail::Nothing,
+        Found::Unknown => Detail::Nothing,
+    }
+}
