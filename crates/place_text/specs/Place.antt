@@ -14,7 +14,7 @@ use Rattle.reader.specs.Meaning.{meaning}
 use Rattle.plain.specs.Plain.{refused-line}
 use Rattle.plain.specs.Digits.{decimal}
 use Rattle.spoken.specs.Said.{points-word, cycles-word, point-word, cycle-word, stroke-word, spaced}
-use Rattle.detail.specs.Detail.{label-at, first-lacking, lacking, apart-at}
+use Rattle.detail.specs.Detail.{label-at, told-where, first-lacking, lacking, apart-at}
 use Rattle.detail.specs.declared.Detail.{Detail}
 use Rattle.detail.specs.declared.Detail.the-variants.{Nothing, Earlier}
 use Rattle.sentences.specs.Sentences.{record-name, not-name, detail-line}
@@ -101,7 +101,7 @@ told-of s k p =
 -- 6: the record that told it first
 abbrev pub first-told : List Labelled → Standing → Detail
 first-told xs (stands (opening z) end) = Nothing
-first-told xs (stands (entry e) end) = Earlier (label-at (e .place) xs)
+first-told xs (stands (entry e) end) = Earlier (told-where (e .place) xs)
 first-told xs (stands close end) = Nothing
 first-told xs (stands unknown end) = Nothing
 first-told xs (stands cut end) = Nothing

@@ -39,13 +39,7 @@ struct Step {
 }
 
 // Puts down the number of the record at `at`, and goes behind it.
-fn pass(
-    s: &[u8],
-    labels: &mut [usize; 231],
-    y: &mut [i64; 220],
-    k: usize,
-    at: usize,
-) -> Step {
+fn pass(s: &[u8], labels: &mut [usize; 231], y: &mut [i64; 220], k: usize, at: usize) -> Step {
     match record_at(s, at, at == 0) {
         Found::Item { record, next } => {
             detail::mark(labels, y, record, k);
@@ -69,12 +63,7 @@ fn pass(
 }
 
 // The numbers of the records that stand before an offset, counted from 1, and the counts of the readings among them. Answers the number behind the last of them.
-fn number_records(
-    s: &[u8],
-    limit: usize,
-    labels: &mut [usize; 231],
-    y: &mut [i64; 220],
-) -> usize {
+fn number_records(s: &[u8], limit: usize, labels: &mut [usize; 231], y: &mut [i64; 220]) -> usize {
     let mut t = Step {
         more: 1,
         k: 1,
