@@ -1,6 +1,8 @@
 // How the refusal of a typed text is told.
+ghost use mathlib.Core.List.{_∷_, _++_};
 ghost use mathlib.Core.Path.{_≡_};
 ghost use lib.ListN.{length};
+ghost use Rattle.plain.specs.Digits.{decimal};
 ghost use Rattle.plain.specs.Grown.{Put};
 ghost use Rattle.plain.specs.Plain as P;
 ghost use Rattle.sentences.specs.Sentences as S;
@@ -32,6 +34,7 @@ fn put_sentence(out: &mut [u8; 831], at: usize, number: u8) -> usize
 // ---- what more is told, each on a line
 fn put_word(out: &mut [u8; 831], at: usize, k: usize, end: &[u8]) -> usize
     requires { ⌜ length (now out) ≡ 831 ⌝ }
+    ensures { λ r. ⌜ Put (now (out .entry)) at (S.word-name ++ (32 ∷ (decimal k ++ now (end .entry)))) (now (out .exit)) r ⌝ }
 {
     let word = put_bytes(out, at, b"word ");
     let told = put_decimal(out, word, k as u64);
@@ -50,6 +53,7 @@ fn put_earlier(out: &mut [u8; 831], at: usize, noun: &[u8], label: usize) -> usi
 
 fn put_input(out: &mut [u8; 831], at: usize, i: usize) -> usize
     requires { ⌜ length (now out) ≡ 831 ⌝ }
+    ensures { λ k. ⌜ Put (now (out .entry)) at (S.detail-line S.line-name (Detail.Input i)) (now (out .exit)) k ⌝ }
 {
     let point = put_bytes(out, at, b"point ");
     let told = put_decimal(out, point, i as u64);
@@ -58,6 +62,7 @@ fn put_input(out: &mut [u8; 831], at: usize, i: usize) -> usize
 
 fn put_reading(out: &mut [u8; 831], at: usize, s: usize, c: usize, i: usize) -> usize
     requires { ⌜ length (now out) ≡ 831 ⌝ }
+    ensures { λ k. ⌜ Put (now (out .entry)) at (S.detail-line S.line-name (Detail.Reading s c i)) (now (out .exit)) k ⌝ }
 {
     let named = spoken::put_reading_place(out, at, s, c, i);
     put_bytes(out, named, b" is missing\n")

@@ -1,4 +1,4 @@
--- `sentences::put_refusal` meets its contract: five parts, one behind the other.
+-- `sentences::put_refusal` meets its contract: six parts, one behind the other.
 use borrow.Author.Needs.{needs}
 use Rattle.plain.specs.GrownLaws.{put-two}
 use Rattle.sentences.proofs.put_refusal.Statement.{statement}
@@ -22,13 +22,24 @@ put-byte-requires c κs = search needs
 put-sentence-requires : tie.Need-put-sentence-requires
 put-sentence-requires c κs = search needs
 
+slice-aggregate-put-detail : tie.Need-slice-aggregate-put-detail
+slice-aggregate-put-detail c = search needs
+
+put-detail-requires : tie.Need-put-detail-requires
+put-detail-requires c κs = search needs
+
 returns : tie.Need-returns
 returns c =
-    let f = c .before .before in
+    let s = c .before .before .before in
+    let f = s .before .before in
     let l = f .before .before in
     let w = l .before .before in
     let n = w .before .before .before in
-    put-two (n .put-number .ensures) (put-two (w .put-bytes .ensures) (put-two (l .put-decimal .ensures) (put-two (f .put-byte .ensures) (c .put-sentence .ensures))))
+    put-two (n .put-number .ensures)
+    (put-two (w .put-bytes .ensures)
+    (put-two (l .put-decimal .ensures)
+    (put-two (f .put-byte .ensures)
+    (put-two (s .put-sentence .ensures) (c .put-detail .ensures)))))
 
 pub put-refusal-spec : {M : Type 1} → statement M
 put-refusal-spec =
@@ -40,4 +51,6 @@ put-refusal-spec =
     put-decimal-requires
     put-byte-requires
     put-sentence-requires
+    slice-aggregate-put-detail
+    put-detail-requires
     returns)

@@ -1,4 +1,4 @@
--- `sentences::refusal` meets its contract: the two lines fit, and go to the front of the buffer.
+-- `sentences::refusal` meets its contract: the lines fit, and go to the front of the buffer.
 use mathlib.Core.Path.{sym, ap, _∙_}
 use mathlib.Core.List.{List}
 use Prim.Native.Nat.{ℕ}
@@ -30,7 +30,7 @@ returns c =
     let p = c .before .before in
     let t = p .before .before .before in
     let a = t .before .before .before .args in
-    let all = put-all (t .put-refusal .ensures) (refusal-fits (a .number) (a .line)) in
+    let all = put-all (t .put-refusal .ensures) (refusal-fits (a .number) (a .line) (a .d)) in
     (p .print .ensures .0 ∙ ap (λ (l : List ℕ). printed l (a .out .now)) all, p .print .ensures .1 ∙ ap (λ (l : List ℕ). buffer-after l (a .out .now)) all)
 
 pub refusal-spec : {M : Type 1} → statement M
