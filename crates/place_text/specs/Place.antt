@@ -1,5 +1,5 @@
 -- Which record the place of a refused run file means, in words (README.md): the refusal as a sheet tells it, the number of the record, counted from 1, and what stands there; and what more is told. Definitions only.
-use mathlib.Core.Bool.{cond}
+use mathlib.Core.Bool.{false, cond}
 use mathlib.Core.List.{List, [], _∷_, _++_}
 use Prim.Native.Nat.{ℕ, suc}
 use lib.Dec.{ltb, leb, eqb}

@@ -38,6 +38,11 @@ struct Step {
     at: usize,
 }
 
+// A record that is not all there counts as one, if its kind is there.
+fn behind(at: usize, len: usize) -> usize {
+    if at < len { 1 } else { 0 }
+}
+
 // Puts down the number of the record at `at`, and goes behind it.
 fn pass(s: &[u8], labels: &mut [usize; 231], y: &mut [i64; 220], k: usize, at: usize) -> Step {
     match record_at(s, at, at == 0) {
@@ -57,8 +62,16 @@ fn pass(s: &[u8], labels: &mut [usize; 231], y: &mut [i64; 220], k: usize, at: u
                 }
             }
         }
-        Found::Cut => Step { more: 0, k, at },
-        Found::Unknown => Step { more: 0, k, at },
+        Found::Cut => Step {
+            more: 0,
+            k: k + behind(at, s.len()),
+            at,
+        },
+        Found::Unknown => Step {
+            more: 0,
+            k: k + 1,
+            at,
+        },
     }
 }
 
@@ -178,4 +191,101 @@ fn first_told(s: &[u8], place: usize, labels: &[usize; 231]) -> Detail {
         Found::Cut => Detail::Nothing,
         Found::Unknown => Detail::Nothing,
     }
+}
+
+fn more_at(s: &[u8], number: usize, place: usize, labels: &[usize; 231]) -> Detail {
+    if number == 6 {
+        return first_told(s, place, labels);
+    }
+    if number == 7 {
+        let t = reader::opening(s);
+        return detail::missing(t.m, t.n, labels);
+    }
+    Detail::Nothing
+}
+
+fn more_of_point(
+    s: &[u8],
+    number: usize,
+    place: usize,
+    labels: &[usize; 231],
+    y: &[i64; 220],
+) -> Detail {
+    if number != 10 {
+        return Detail::Nothing;
+    }
+    let t = reader::opening(s);
+    detail::apart(t.n, labels, y, place)
+}
+
+// ---- the lines
+fn put_what(out: &mut [u8; 831], at: usize, s: &[u8], number: usize, place: usize) -> usize
+    requires { ⌜ length (now out) ≡ 831 ⌝ }
+{
+    if number == 8 {
+        put_bytes(out, at, b" behind the close\n")
+    } else {
+        let told = put_standing(out, at, s, place);
+        plain::put_byte(out, told, b'\n')
+    }
+}
+
+// 1 to 8 are told of the record at their place.
+fn put_at(out: &mut [u8; 831], at: usize, s: &[u8], number: usize, place: usize) -> usize
+    requires { ⌜ length (now out) ≡ 831 ⌝ }
+{
+    let mut labels = [0; 231];
+    let mut y = [0; 220];
+    let k = number_records(s, place, &mut labels, &mut y);
+    let head = put_head(out, at, k);
+    let line = put_what(out, head, s, number, place);
+    sentences::put_detail(out, line, b"record", more_at(s, number, place, &labels))
+}
+
+// 9 and 10 are told of the record that gives the point's input.
+fn put_of_point(out: &mut [u8; 831], at: usize, s: &[u8], number: usize, place: usize) -> usize
+    requires { ⌜ length (now out) ≡ 831 ⌝ }
+{
+    let mut labels = [0; 231];
+    let mut y = [0; 220];
+    number_records(s, s.len(), &mut labels, &mut y);
+    let head = put_head(out, at, labels[place]);
+    let named = put_point(out, head, place);
+    let line = plain::put_byte(out, named, b'\n');
+    sentences::put_detail(
+        out,
+        line,
+        b"record",
+        more_of_point(s, number, place, &labels, &y),
+    )
+}
+
+fn put_place(out: &mut [u8; 831], s: &[u8]) -> usize
+    requires { ⌜ length (now out) ≡ 831 ⌝ }
+    ensures { λ k. ⌜ Put (now (out .entry)) 0 (S.place-of (now (s .entry))) (now (out .exit)) k ⌝ }
+{
+    let mut x = [0; 11];
+    let mut y = [0; 220];
+    let t = reader::read_into(s, &mut x, &mut y);
+    let number = t.number;
+    let place = t.place;
+    if number == 0 {
+        return put_bytes(out, 0, b"nothing is refused\n");
+    }
+    let told = plain::put_refused(out, 0, number, place);
+    if number < 9 {
+        put_at(out, told, s, number, place)
+    } else {
+        put_of_point(out, told, s, number, place)
+    }
+}
+
+// Which record the place of a refused file means, at the front of a lent buffer.
+pub fn place(file: &[u8], out: &mut [u8]) -> Printed
+    ensures answer { λ q. ⌜ q ≡ P.printed (S.place-of (now (file .entry))) (now (out .entry)) ⌝ }
+    ensures after { λ _. ⌜ now (out .exit) ≡ P.buffer-after (S.place-of (now (file .entry))) (now (out .entry)) ⌝ }
+{
+    let mut told = [0u8; 831];
+    let len = put_place(&mut told, file);
+    plain::print(&told[..len], out)
 }
