@@ -1,31 +1,33 @@
-"""Holds what the programs `texts`, `typed` and `listing` make of texts and of run files to what second/text.py says, byte for byte, and both to the page, docs/TEXT.md."""
+"""Holds what the programs `texts`, `typed`, `listing` and `place` make of texts and of run files to what second/text.py and second/place.py say, byte for byte, and both to the page, docs/TEXT.md."""
 import os
 import re
 
+import make_files
 import make_sheets
 import make_texts
 import worked_runs
 import wrong_texts
 from compare_sheets import counts_text, named_files
-from requests import LISTING, TYPED, file_request, lent
-from second import text
+from braille import CELLS, cells
+from requests import LISTING, PLACE, TYPED, file_request, lent
+from second import place, text
 from second.runfile import answer, file_of
 
 ROOT = os.path.dirname(os.path.dirname(os.path.abspath(__file__)))
 # the most that the program `texts` lends for a listing, for a run file and for a refusal
-LISTING_ROOM, FILE_ROOM, TOLD_ROOM = 8448, 2048, 80
+LISTING_ROOM, FILE_ROOM, TOLD_ROOM = 8448, 2048, 120
 # no line that a run needs is longer, the page says
 LONGEST_LINE = 36
 DUE_NUMBERS = (0, 14, *range(41, 51))
 # The page says nothing of how 14 is told, so only the form of it is held: a text at the front, and nothing touched behind it.
-TOLD_FOURTEEN = re.compile(rb'refusal 0 ([0-9]{1,2})\n(.{80})\n', re.DOTALL)
+TOLD_FOURTEEN = re.compile(rb'refusal 0 ([0-9]{1,2})\n(.{120})\n', re.DOTALL)
 
 
 class Case:
-    """One request: what it is of, its bytes, the bytes due, and the number answered."""
+    """One request: what it is of, its bytes, the bytes due, the number answered, and the lines that tell a refusal."""
 
-    def __init__(self, what, request, due, number):
-        self.what, self.request, self.due, self.number = what, request, due, number
+    def __init__(self, what, request, due, number, told=()):
+        self.what, self.request, self.due, self.number, self.told = what, request, due, number, told
 
 
 def listing_case(what, data, content, room):
@@ -35,14 +37,24 @@ def listing_case(what, data, content, room):
     return Case('the listing of %s with room %d' % (what, room), file_request(LISTING, data, room), due, number)
 
 
+def place_case(what, data, room):
+    """A run file of which it is due which record its place means, in a buffer of that length."""
+    told = place.Places(data)
+    (number, length), after = text.printed(text.joined(told.lines()), lent(room))
+    due = b'place %d %d\n' % (number, length) + after + b'\n'
+    return Case('the place of %s with room %d' % (what, room), file_request(PLACE, data, room), due, number or told.number, told.lines())
+
+
 def typed_case(what, given, room, heard):
     """A text whose run file, or whose refusal, is due in a buffer of that length."""
     (number, line, length), after = text.put(*heard, lent(room))
-    due = b'typed %d %d %d\n' % (number, line, length) + after + b'\n'
+    due, lines = b'typed %d %d %d\n' % (number, line, length) + after + b'\n', []
     if number in text.SAID:
-        (short, told), refusal = text.printed(text.refusal(number, line), lent(TOLD_ROOM))
+        content = text.refusal(number, line, text.more_told(given, number, line))
+        lines = content.split(b'\n')
+        (short, told), refusal = text.printed(content, lent(TOLD_ROOM))
         due += b'refusal %d %d\n' % (short, told) + refusal + b'\n'
-    return Case('text %s with room %d' % (what, room), file_request(TYPED, given, room), due, number)
+    return Case('text %s with room %d' % (what, room), file_request(TYPED, given, room), due, number, lines)
 
 
 class Material:
@@ -64,6 +76,12 @@ class Material:
         for which, ((name, given), heard) in enumerate(zip(self.texts, self.heard)):
             room = (0, 2, 60, FILE_ROOM)[which % 4] if heard[0] else len(file_of(heard[2])) + which % 3
             yield typed_case(name, given, room, heard)
+
+    def place_cases(self):
+        """Every file that is refused, and every tenth of the others, with a buffer that holds what is due, one byte less, or more."""
+        for which, (name, data) in enumerate([*self.files, *(('of number %d' % k, data) for k, data in enumerate(make_files.files()))]):
+            if len(data) <= 4096 and (answer(data)[0] or which % 10 == 0):
+                yield place_case('file ' + name, data, max(0, len(place.told(data)) + which % 4 - 1))
 
     def tight_cases(self):
         """Every fiftieth listing and every tenth good text with a buffer of one byte less, of nearly none, and of all that may be lent."""
@@ -179,7 +197,7 @@ def typed_faults(run, chosen):
     """The program `typed`: the run file on standard output, or nothing there and the refusal on standard error."""
     for name, given in chosen:
         (number, line, length), after = text.typed(given, lent(FILE_ROOM))
-        due = (b'', text.refusal(number, line)) if number else (after[:length], b'')
+        due = (b'', text.refusal(number, line, text.more_told(given, number, line))) if number else (after[:length], b'')
         got = run('typed', given, errors=True)
         for what, printed, right in zip(('prints', 'says on standard error'), got, due):
             if printed != right:
@@ -205,6 +223,22 @@ def listing_faults(run, chosen):
         got, due = run('listing', data), text.listing(data)
         if got != due:
             yield 'listing of file %s: %s' % (name, difference(got, due))
+
+
+def place_faults(run, chosen):
+    """The program `place`, a file on its standard input."""
+    for name, data in chosen:
+        got, due = run('place', data), place.told(data)
+        if got != due:
+            yield 'place of file %s: %s' % (name, difference(got, due))
+
+
+def wide_faults(cases):
+    """Each line that tells a refusal fits forty cells."""
+    for case in cases:
+        for line in case.told:
+            if cells(line.decode('ascii')) > CELLS:
+                yield '%s: %r has %d cells' % (case.what, line, cells(line.decode('ascii')))
 
 
 # The page
@@ -241,8 +275,8 @@ def table_faults(page):
     for number in range(41, 51):
         if text.refusal(number, 7) != b'refused %d line 7\n%s\n' % (number, rows.get(number, b'')):
             yield 'the page says %r for %d, and the second program %r' % (rows.get(number), number, text.refusal(number, 7))
-    if indented(page, 'Refusals') != text.refusal(44, 7):
-        yield 'the page shows another refusal than that of 44 at line 7'
+    if indented(page, 'Refusals') != text.refusal(46, 7, [b'line 3 told it first']):
+        yield 'the page shows another refusal than that of 46 at line 7, told first in line 3'
 
 
 def line_faults(listings):
@@ -260,35 +294,38 @@ def page_faults(run, made):
 
 
 def met(cases, made):
-    """How often each number was answered of a text, and of a listing; a file that was refused counts by its refusal."""
-    typed, listed = dict.fromkeys(DUE_NUMBERS, 0), dict.fromkeys((*range(11), 14), 0)
+    """How often each number was answered of a text, of a listing and of a place; a file that was refused counts by its refusal."""
+    typed, listed, placed = dict.fromkeys(DUE_NUMBERS, 0), dict.fromkeys((*range(11), 14), 0), dict.fromkeys((*range(11), 14), 0)
     for case in cases:
         if case.due.startswith(b'typed'):
             typed[case.number] += 1
+        elif case.due.startswith(b'place'):
+            placed[case.number] += 1
         elif case.number:
             listed[case.number] += 1
     for number, _, _ in made.answers:
         listed[number] += 1
-    return typed, listed
+    return typed, listed, placed
 
 
-def missing(typed, listed):
+def missing(typed, listed, placed):
     yield from ('no text was answered with %d' % number for number, count in typed.items() if not count)
     yield from ('no listing was answered with %d' % number for number, count in listed.items() if not count)
+    yield from ('no place was told of %d' % number for number, count in placed.items() if not count)
 
 
 def compare(run):
     made = Material()
-    cases = [*made.listing_cases(), *made.text_cases(), *made.tight_cases()]
+    cases = [*made.listing_cases(), *made.text_cases(), *made.tight_cases(), *made.place_cases()]
     answers, wrong = asked(run, cases)
     back = forth = 0
     if not wrong:
         back, forth, wrong = round_trips(run, made, answers)
     texts, files = chosen_texts(made), chosen_files(made)
-    wrong += [*typed_faults(run, texts), *listing_faults(run, files), *page_faults(run, made)]
-    typed, listed = met(cases, made)
-    wrong += missing(typed, listed)
+    wrong += [*typed_faults(run, texts), *listing_faults(run, files), *place_faults(run, files), *page_faults(run, made), *wide_faults(cases)]
+    typed, listed, placed = met(cases, made)
+    wrong += missing(typed, listed, placed)
     more, told = wrong_texts.told_apart(made.texts)
     first = ['texts: %d texts and %d files, %d listings typed again, %d typed texts listed, %d texts and %d files by the programs themselves' % (len(made.texts), len(made.files), back, forth, len(texts), len(files))]
-    first += ['texts met: ' + counts_text(typed), 'listings met: ' + counts_text(listed)]
-    return len(cases) + back + forth + len(texts) + len(files), wrong + more, first + told
+    first += ['texts met: ' + counts_text(typed), 'listings met: ' + counts_text(listed), 'places met: ' + counts_text(placed)]
+    return len(cases) + back + forth + len(texts) + 2 * len(files), wrong + more, first + told

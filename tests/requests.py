@@ -1,6 +1,6 @@
-"""What the programs of the comparison are sent, in numbers of 8 bytes, low byte first. The first requests are those of the program `answers`, as the head of crates/answers/src/main.rt says; the last two are those of the program `texts`, which are sent as a file is."""
+"""What the programs of the comparison are sent, in numbers of 8 bytes, low byte first. The first requests are those of the program `answers`, as the head of crates/answers/src/main.rt says; the last three are those of the program `texts`, which are sent as a file is."""
 READ, WRITE, SHEET, INDICES, CLOSE = range(5)
-LISTING, TYPED = range(2)
+LISTING, TYPED, PLACE = range(3)
 
 
 def word(value):
