@@ -75,7 +75,7 @@ module _ (noun : List ℕ) where
 
   earlier-long : (l : ℕ) → Most (detail-line noun (Earlier l)) (length noun + 36)
   unfolding spaced
-  earlier-long l = joined (word noun) (after 32 (joined (decimal-most l) (word _)))
+  earlier-long l = joined (word noun) (after 32 (joined (decimal-most _) (word _)))
 
   input-long : (i : ℕ) → Most (detail-line noun (Input i)) 38
   unfolding spaced
