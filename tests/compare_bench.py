@@ -13,8 +13,8 @@ with open(os.path.join(ROOT, 'runs', 'sample.run'), 'rb') as file:
 with open(os.path.join(ROOT, 'runs', 'sample.sheet'), 'rb') as file:
     SHEET = file.read()
 LISTING = text.listing(RUN)
-REFUSED = text.refusal(42, 1)
-BEFORE = {'good.txt': LISTING, 'bad.txt': b'up\n', 'my run.run': RUN, 'old.run': b'old', '-dash.run': RUN}
+REFUSED = text.refusal(42, 1, [b'word 2 is missing'])
+BEFORE = {'good.txt': LISTING, 'marked.txt': b'\xef\xbb\xbf' + LISTING, 'twice.run': RUN[:-1] + RUN[3:9] + RUN[-1:], 'bad.txt': b'up\n', 'my run.run': RUN, 'old.run': b'old', '-dash.run': RUN}
 
 # Each case: what is tried, the words after `bench`, standard input, the status, what is printed, what is said, and the files that are new or another afterwards.
 CASES = [
@@ -24,6 +24,10 @@ CASES = [
     ('a listing', ['listing', 'my run.run'], b'', 0, LISTING, b'', {}),
     ('a name that begins with a dash', ['listing', '-dash.run'], b'', 0, LISTING, b'', {}),
     ('a listing of a refused file', ['listing', 'good.txt'], b'', 0, b'refused 2 at 0\n', b'', {}),
+    ('the place of a refused file', ['place', 'twice.run'], b'', 0, b'refused 6 at 117\nrecord 17: point 0\nrecord 2 told it first\n', b'', {}),
+    ('the place of an accepted file', ['place', 'my run.run'], b'', 0, b'nothing is refused\n', b'', {}),
+    ('the place of standard input', ['place'], RUN[:-1], 0, b'refused 1 at 117\nrecord 17: not there\n', b'', {}),
+    ('a text with a byte-order mark', ['typed', 'marked.txt', 'new.run'], b'', 0, b'', b'', {'new.run': RUN}),
     ('a run file', ['typed', 'good.txt', 'new.run'], b'', 0, b'', b'', {'new.run': RUN}),
     ('a run file over an old one', ['typed', 'good.txt', 'old.run'], b'', 0, b'', b'', {'old.run': RUN}),
     ('a run file whose name begins with a dash', ['typed', 'good.txt', '-new.run'], b'', 0, b'', b'', {'-new.run': RUN}),

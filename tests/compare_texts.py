@@ -177,7 +177,7 @@ def round_trips(run, made, answers):
 
 # The programs themselves
 
-NAMED_TEXTS = ('sample', 'sample in reverse', 'carriage returns', 'no last line feed', 'dressed 0', 'dressed 1', "a text of b''", 'the longest run in the widest words', 'every record twice and nothing', '65536 bytes with a line feed behind', '65536 bytes with no line feed behind', '65537 bytes with a line feed behind', '65536 line feeds')
+NAMED_TEXTS = ('sample', 'sample in reverse', 'carriage returns', 'no last line feed', 'dressed 0', 'dressed 1', "a text of b''", 'the longest run in the widest words', 'every record twice and nothing', '65536 bytes with a line feed behind', '65536 bytes with no line feed behind', '65537 bytes with a line feed behind', '65536 line feeds', 'sample with a byte-order mark', '65536 bytes behind a byte-order mark', '65537 bytes behind a byte-order mark')
 NAMED_FILES = ('sample', 'a1', 'a4', 'c2', 'zeros', 'negative', 'empty', 'm of 11', 'widest scatter, 10 cycles, 1', 'longest with 1000 bytes behind', 'rubbish of 4096 bytes')
 
 

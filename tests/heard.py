@@ -19,6 +19,9 @@ from second.sheet import NAMES  # noqa: E402
 from worked_runs import names, part  # noqa: E402
 
 TABLES = 'unicode.dis,en-ueb-g1.ctb'
+# what more is told of a refusal, and what a record is told as, with the longest numbers that there are
+MORE = [b'word 7 is not understood', b'word 7 is missing', b'line 65535 told it first', b'point 10 is missing', b'down point 10 cycle 9 is missing', b'lines 65536 and 65535 lie apart']
+RECORDS = ['points 255 cycles 255', 'point 255', 'up point 255 cycle 255', 'down point 255 cycle 255', 'stroke 255', 'close', 'kind 255', 'cut short', 'not there', 'behind the close']
 
 
 def tool(command, given=''):
@@ -35,7 +38,8 @@ def sounds(lines):
 
 def in_words(line):
     """A line with its signs written as words, in every way in which they may be said."""
-    fixed = re.sub(r'(\d)/(\d)', r'\1 slash \2', line)
+    # a colon behind a number is a pause
+    fixed = re.sub(r'(\d)/(\d)', r'\1 slash \2', line.replace(': ', ' '))
     fixed = re.sub(r'(\d)\.(\d+)', lambda found: found.group(1) + ' point ' + ' '.join(found.group(2)), fixed)
     parts = re.split(r'(?<!\S)-(?=\d)', fixed)
     for said in itertools.product(('minus ', 'dash '), repeat=len(parts) - 1):
@@ -98,8 +102,9 @@ def sources():
     if max(map(len, longest)) != 36:
         sys.exit('heard: the listing with the longest lines has none of 36 characters')
     yield 'listing with the longest lines', longest, True
-    yield 'refusals of a text', [line for n in range(41, 51) for line in text.refusal(n, 65536).decode('ascii').splitlines()], True
+    yield 'refusals of a text', [line for n in range(41, 51) for line in text.refusal(n, 65536, MORE).decode('ascii').splitlines()], True
     yield 'refusals of a run file', ['refused %d at 1836' % n for n in range(1, 11)], True
+    yield 'records that a place means', ['record 233: ' + what for what in RECORDS] + ['record 232 told it first', 'records 233 and 232 lie apart', 'nothing is refused'], True
     yield 'refusals of an index', ['%s refused %d' % (name, n) for name in NAMES + ('line',) for n in (11, 12, 13, 15)], True
 
 

@@ -6,6 +6,8 @@ from make_files import paper_run, random_run, with_point, with_reading
 from second.runfile import CYCLES, POINTS, SCATTER, Run
 from second.text import LONGEST, joined, record_lines
 
+# the byte-order mark of UTF-8, as its codec writes it
+MARK = ''.encode('utf-8-sig')
 # the longest text that the program of the comparison takes
 MOST = 65600
 
@@ -80,6 +82,16 @@ def named(make):
     yield 'sample with form feeds between words', joined(lines).replace(b' ', b'\f')
     yield 'sample with a word too many', joined(lines).replace(b' 2000', b' 2000 grams')
     yield 'sample with a note behind a record', joined(lines).replace(b' 2000', b' 2000 note warm')
+    yield 'sample with a byte-order mark', MARK + joined(lines)
+    yield 'sample with two byte-order marks', MARK + MARK + joined(lines)
+    yield 'sample with a byte-order mark in its second line', joined(lines[:1] + [MARK + lines[1]] + lines[2:])
+    yield 'sample with a byte-order mark of two bytes', MARK[:2] + joined(lines)
+    yield 'sample with a byte-order mark and a reading twice', MARK + joined(lines + [again])
+    yield 'a byte-order mark alone', MARK
+    yield 'sample without the down stroke of its second cycle', joined(lines[:-3])
+    yield 'sample with both strokes apart at the last point', joined([opening] + points + readings[:2] + [b'up point 2 cycle 0 reads -9001'] + readings[3:-1] + [b'down point 2 cycle 1 reads 12005'])
+    yield 'points alone but for one', joined([opening] + points[1:])
+    yield 'sample with a line that ends too early', joined(lines[:5] + [b'up point 1 cycle'] + lines[6:])
 
 
 # Good texts
@@ -400,8 +412,10 @@ def filled(lines, length, last):
 
 
 def lengths(make):
-    """Texts of the greatest length, of one byte more and of a little more, in few and in many lines."""
+    """Texts of the greatest length, of one byte more and of a little more, in few and in many lines, and behind a byte-order mark."""
     lines = record_lines(paper_run())
+    yield '65536 bytes behind a byte-order mark', MARK + filled(lines, LONGEST, b'\n')
+    yield '65537 bytes behind a byte-order mark', MARK + filled(lines, LONGEST + 1, b'\n')
     for length in (LONGEST - 1, LONGEST, LONGEST + 1, LONGEST + 2, MOST):
         for what, last in (('a line feed', b'\n'), ('no line feed', b'x')):
             yield '%d bytes with %s behind' % (length, what), filled(lines, length, last)

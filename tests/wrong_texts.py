@@ -2,8 +2,9 @@
 import re
 from functools import cached_property
 
-from second.runfile import Run
-from second.text import FORMS, LONGEST, RECORDS, Text, heard, patterns
+from make_texts import MARK
+from second.runfile import Run, all_places
+from second.text import FORMS, LONGEST, RECORDS, Text, apart_pair, heard, more_told, patterns
 
 
 class PairedByPlace(Text):
@@ -121,6 +122,65 @@ class PlusSigns(Text):
     forms = patterns(number=rb'([-+]?[0-9]{1,7})')
 
 
+class MarkIsAWord(Text):
+    def __init__(self, text):
+        """A byte-order mark is the beginning of the first word."""
+        Text.__init__(self, MARK + text if text.startswith(MARK) else text)
+
+
+class EveryMark(Text):
+    def __init__(self, text):
+        Text.__init__(self, text.replace(MARK, b''))
+
+
+class MarkCounts(Text):
+    def length_faults(self):
+        """The mark is counted for the length."""
+        whole = self.whole if hasattr(self, 'whole') else self.text
+        return [fault for fault in [(0, whole[:LONGEST].count(b'\n') + 1, 0, 48)] if len(whole) > LONGEST]
+
+    def __init__(self, text):
+        self.whole = text
+        Text.__init__(self, text)
+
+
+class ByListing(Text):
+    def order(self):
+        """What is missing is looked for as a listing goes: the down stroke with its lowest input first."""
+        return sorted(all_places(self.m, self.n), key=lambda p: (0, p[1]) if p[0] == 'point' else (1, p[2], p[1], p[3]))
+
+
+class ReadingsFirst(Text):
+    def order(self):
+        """What is missing is looked for among the readings, and then among the points."""
+        return sorted(super().order(), key=lambda p: p[0] == 'point')
+
+
+class LowerFirst(Text):
+    def pair(self, i):
+        s, high, low = super().pair(i)
+        return s, low, high
+
+
+class DownFirst(Text):
+    def pair(self, i):
+        """The down stroke is looked at first."""
+        turned = Run(self.run.m, self.run.n, self.run.x, {(1 - s, c, j): y for (s, c, j), y in self.run.y.items()})
+        s, high, low = apart_pair(turned, i)
+        return 1 - s, high, low
+
+
+class WordsFromZero(Text):
+    def odd(self, line):
+        return re.sub(rb'[0-9]+', lambda found: b'%d' % (int(found.group()) - 1), super().odd(line))
+
+
+class EveryWordIsThere(Text):
+    def odd(self, line):
+        """A line that ends too early has a word that is not understood."""
+        return super().odd(line).replace(b'missing', b'not understood')
+
+
 # What is done wrongly, the method, and the text that tells it apart.
 WRONG = [
     ('pairing readings by their place in the text', PairedByPlace, 'sample in reverse'),
@@ -143,17 +203,31 @@ WRONG = [
     ('points of three digits', LongSmalls, 'sample with a point of three digits'),
     ('readings of eight digits', LongNumbers, 'sample with a reading of eight digits'),
     ('a plus sign', PlusSigns, 'sample with a plus sign'),
+    ('taking a byte-order mark for a word', MarkIsAWord, 'sample with a byte-order mark'),
+    ('taking off every byte-order mark', EveryMark, 'sample with two byte-order marks'),
+    ('counting the byte-order mark for the length', MarkCounts, '65536 bytes behind a byte-order mark'),
+    ('telling what is missing by the order of a listing', ByListing, 'sample without the down stroke of its second cycle'),
+    ('telling a missing reading before a missing point', ReadingsFirst, 'points alone but for one'),
+    ('telling the lower of two lines first', LowerFirst, 'sample with scatter at the last point'),
+    ('telling of the down stroke first', DownFirst, 'sample with both strokes apart at the last point'),
+    ('counting words from 0', WordsFromZero, 'sample with a line that ends too early'),
+    ('taking a word that is missing for one that is there', EveryWordIsThere, 'sample with a line that ends too early'),
 ]
 
 
 def told(answer):
-    """What was answered of a text, and all that a run file has of it."""
-    number, line, run = answer
-    return number, line, run.m, run.n, run.inputs(), run.readings()
+    """What was answered of a text, all that a run file has of it, and what more is told."""
+    (number, line, run), more = answer
+    return number, line, run.m, run.n, run.inputs(), run.readings(), more
+
+
+def answered(given, method=Text):
+    number, line, run = heard(given, method)
+    return (number, line, run), more_told(given, number, line, method)
 
 
 def sentence(what, name, right, other):
-    shown = ['%d at line %d' % answer[:2] if answer[0] else 'accepted' for answer in (other, right)]
+    shown = [' '.join(['%d at line %d' % answer[:2]] + [line.decode('ascii') for line in more]) if answer[0] else 'accepted' for answer, more in (other, right)]
     if shown[0] == shown[1]:
         return '%s differs at text %s: another run' % (what, name)
     return '%s differs at text %s: %s, where %s is due' % (what, name, *shown)
@@ -167,7 +241,7 @@ def told_apart(texts):
         if name not in by_name:
             wrong.append('there is no text %s to tell %s from the page' % (name, what))
             continue
-        right, other = heard(by_name[name]), heard(by_name[name], method)
+        right, other = answered(by_name[name]), answered(by_name[name], method)
         if told(right) == told(other):
             wrong.append('the text %s does not tell %s from the page' % (name, what))
         else:
