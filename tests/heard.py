@@ -38,18 +38,22 @@ def sounds(lines):
 
 def in_words(line):
     """A line with its signs written as words, in every way in which they may be said."""
-    # a colon behind a number is a pause
-    fixed = re.sub(r'(\d)/(\d)', r'\1 slash \2', line.replace(': ', ' '))
+    fixed = re.sub(r'(\d)/(\d)', r'\1 slash \2', line)
     fixed = re.sub(r'(\d)\.(\d+)', lambda found: found.group(1) + ' point ' + ' '.join(found.group(2)), fixed)
     parts = re.split(r'(?<!\S)-(?=\d)', fixed)
     for said in itertools.product(('minus ', 'dash '), repeat=len(parts) - 1):
         yield ''.join(a + b for a, b in itertools.zip_longest(parts, said, fillvalue=''))
 
 
+def ways(line):
+    """The ways in which a line may be said, each in its parts: a colon is a pause between two of them."""
+    return itertools.product(*(in_words(part) for part in line.split(': ')))
+
+
 def spoken_faults(lines):
-    faults = ['%r has a sign of which nobody said how it sounds' % line for line in lines if any(re.search(r'[^A-Za-z0-9 ]', words) for words in in_words(line))]
+    faults = ['%r has a sign of which nobody said how it sounds' % line for line in lines if any(re.search(r'[^A-Za-z0-9 ]', words) for way in ways(line) for words in way)]
     for line, heard in zip(lines, sounds(lines)):
-        if heard not in sounds(list(in_words(line))):
+        if heard not in [''.join(sounds(way)) for way in ways(line)]:
             faults.append('%r is spoken as %s' % (line, heard))
     return faults
 

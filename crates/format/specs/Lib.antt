@@ -3,6 +3,7 @@ pub mod Found
 pub mod Pieces
 pub mod Taken
 pub mod Split
+pub mod Trip
 pub mod Early
 pub mod UpTo
 pub mod Settled

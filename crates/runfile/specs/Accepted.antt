@@ -7,18 +7,14 @@ use Prim.Native.Nat.{ℕ, _+_, _<_}
 use native.Mathlib.Omega.{arith}
 use lib.ListN.{length, length-append, List·getD-append}
 use lib.Seq.{getD-append-add}
-use Rattle.table.specs.Table.{First}
-use Rattle.table.specs.Laws.{exists}
 use Rattle.run.specs.Places.{input-at, reading-at}
 use Rattle.run.specs.Checks.{fine, verdict}
 use Rattle.run.specs.declared.Run.{Run}
 use Rattle.records.specs.Record as R
-use Rattle.records.specs.Meaning.{refusals, Answer}
-use Rattle.records.specs.Travel.{travel, sizes-in, trimmed}
-use Rattle.records.specs.Travel as T
-use Rattle.format.specs.Format.{file}
-use Rattle.format.specs.Pieces.{joined, Pieces, file-framed}
-use Rattle.format.specs.Split.{Composed, composed}
+use Rattle.records.specs.Travel.{trimmed}
+use Rattle.format.specs.Pieces.{joined, Pieces}
+use Rattle.format.specs.Split.{Composed}
+use Rattle.format.specs.Trip.{travelled}
 use Rattle.record.specs.Kinds.{run-file, as-record, bytes, file-meaning}
 use Rattle.record.specs.declared.Record.{Record}
 use Rattle.record.specs.declared.Record.the-variants.{Opening, Point, Value, Close}
@@ -81,29 +77,14 @@ composed-file s ok c =
 abbrev pub FileOf : List ℕ → Run → Type 0
 FileOf s r = (verdict r ≡ fine) × (trimmed r ≡ r) × ((rs : List Record) × List·Permᴰ rs (W.travel r) × (s ≡ W.framed (r .m) (r .n) rs))
 
-entries-framed : (es : List R.Entry) → R.entries-of (map R.entry es ++ (R.close ∷ [])) ≡ es
-unfolding R.entries-of
-entries-framed [] = refl
-entries-framed (e ∷ es) = ap (λ (l : List R.Entry). e ∷ l) (entries-framed es)
-
--- opening, entries, close: they have one opening, and the same entries in the same order
-same-frame : (z y : R.Sizes) (es fs : List R.Entry) → R.framed z es ≡ R.framed y fs → (z ≡ y) × (es ≡ fs)
-unfolding R.entries-of R.sizes-of
-same-frame z y es fs q = (ap R.sizes-of q, sym (entries-framed es) ∙ ap R.entries-of q ∙ entries-framed fs)
-
 -- the theory tells which entries there are, the format that their bytes are all that stands there
 accepted-file : (s : List ℕ) (r : Run) → Bytes s → file-meaning s ≡ given r → FileOf s r
 accepted-file s r ok e =
-    let t = file run-file s in
-    let c = composed run-file s (subst (First (refusals t)) (ap (λ (a : Answer). a .told) e) (exists (refusals t))) in
-    let es = c .entries in
-    let its-are : R.its t ≡ R.framed (c .sizes) es
-    = ap (λ (l : List ℕ). R.its (file run-file l)) (c .bytes-are) ∙ file-framed run-file (c .first) (c .last) (c .sizes) (c .opens) (c .shuts) (c .pieces) es (c .holds) in
-    let f = T.accepted-exactly t r .0 e in
-    let same = same-frame (c .sizes) (sizes-in r) es (f .2 .0) (sym its-are ∙ f .2 .2) in
-    let order : List·Permᴰ es (travel r) = subst (λ (l : List R.Entry). List·Permᴰ l (travel r)) (sym (same .1)) (f .2 .1) in
-    let whole = composed-file s ok c ∙ ap (λ (z : R.Sizes). W.framed (z .m) (z .n) (map written-as es)) (same .0) in
-    (f .0, f .1, (map written-as es, subst (List·Permᴰ (map written-as es)) (sym (travel-is r)) (Permᴰ·map written-as order), whole))
+    let t = travelled run-file s r e in
+    let c = t .whole in
+    let rs = map written-as (c .entries) in
+    let order : List·Permᴰ rs (W.travel r) = subst (List·Permᴰ rs) (sym (travel-is r)) (Permᴰ·map written-as (t .order)) in
+    (t .checked, t .trim, (rs, order, composed-file s ok c ∙ ap (λ (z : R.Sizes). W.framed (z .m) (z .n) rs) (t .sizes-are)))
 
 -- accepted exactly when it is such a file, and the answer is that run
 pub accepted-exactly : (s : List ℕ) (r : Run) → Bytes s → (file-meaning s ≡ given r) ↔ FileOf s r
