@@ -4,9 +4,10 @@ use mathlib.Core.Bool.{Bool, true, false, cond}
 use mathlib.Core.List.{List, [], _∷_, _++_, append-assoc, append-nil}
 use Prim.Native.Nat.{ℕ, suc, _+_, _<_, _≤_}
 use native.Mathlib.Omega.{arith}
-use borrow.Author.Tests.{lt-ltb, le-ltb, le-leb, lt-leb}
+use borrow.Author.Tests.{lt-ltb, le-ltb, le-leb, lt-leb, eq-eqb, ne-eqb}
 use lib.Dec.{ltb, leb, eqb}
 use lib.ListN.{length, getD}
+use Rattle.whole.specs.Flags.{cond-yes, cond-no}
 use Rattle.run.specs.Places.{Place, input-at, reading-at}
 use Rattle.records.specs.Record.{Record, opening, entry, close, unknown, cut, surplus}
 use Rattle.format.specs.Found.{Standing, stands, ends, strange, standing-at}
@@ -60,3 +61,36 @@ reading-led s c i h = simp (lt-ltb s 2 h, append-nil)
 pub stroke-led : (s c i : ℕ) → 2 ≤ s → 32 ∷ (stroke-name ++ (32 ∷ decimal s)) ≡ led (place-words (reading-at s c i))
 unfolding led
 stroke-led s c i h = simp (le-ltb s 2 h, append-nil)
+
+-- ---- what stands at a place, by what is found there
+module _ (s : List ℕ) (at : ℕ) where
+  -- its words are told of what stands there
+  found-led : {q : Standing} → q ≡ standing-at run-file (eqb at 0) s at → led (standing-words s at q) ≡ led (words-at s at)
+  found-led e = ap (λ (q : Standing). led (standing-words s at q)) e
+
+  pub stands-led : {r : Record} {end : ℕ} → stands r end ≡ standing-at run-file (eqb at 0) s at → led (record-words r) ≡ led (words-at s at)
+  stands-led e = found-led e
+
+  pub nothing-led : ends ≡ standing-at run-file (eqb at 0) s at → length s ≤ at → led (not-name ∷ there-name ∷ []) ≡ led (words-at s at)
+  nothing-led e h = ap led (cond-yes (cut-name ∷ short-name ∷ []) (le-leb (length s) at h) refl) ∙ found-led e
+
+  pub cut-led : ends ≡ standing-at run-file (eqb at 0) s at → at < length s → led (cut-name ∷ short-name ∷ []) ≡ led (words-at s at)
+  cut-led e h = ap led (cond-no (not-name ∷ there-name ∷ []) (lt-leb (length s) at h) refl) ∙ found-led e
+
+  pub strange-led : strange ≡ standing-at run-file (eqb at 0) s at → led (kind-name ∷ decimal (getD s at 0) ∷ []) ≡ led (words-at s at)
+  strange-led e = found-led e
+
+  -- nothing strange stands behind the end
+  pub not-strange : strange ≡ standing-at run-file (eqb at 0) s at → length s ≤ at → ⊥
+  not-strange e h =
+      let q : strange ≡ ends = rw (le-leb (length s) at h) at e in
+      let z : _≡_ {A = ℕ} 0 1 = cc in
+      omega arith
+
+-- ---- what is told of the record at a place, and its line feed
+module _ (s : List ℕ) (k p : ℕ) where
+  pub behind-led : k ≡ 8 → led (behind-name ∷ the-name ∷ close-name ∷ []) ++ (line-feed ∷ []) ≡ led (what-words s k p) ++ (line-feed ∷ [])
+  behind-led e = ap (λ (ws : List (List ℕ)). led ws ++ (line-feed ∷ [])) (cond-yes (words-at s p) (eq-eqb k 8 e) refl)
+
+  pub at-led : (k ≡ 8 → ⊥) → led (words-at s p) ++ (line-feed ∷ []) ≡ led (what-words s k p) ++ (line-feed ∷ [])
+  at-led d = ap (λ (ws : List (List ℕ)). led ws ++ (line-feed ∷ [])) (cond-no (behind-name ∷ the-name ∷ close-name ∷ []) (ne-eqb k 8 d) refl)

@@ -1,5 +1,9 @@
 -- `place_text::put_standing` meets its contract: one arm for each of what may stand at the place.
 use borrow.Author.Needs.{needs}
+use mathlib.Core.Path.{sym, ap, _∙_}
+use Rattle.plain.specs.GrownLaws.{put-is}
+use Rattle.record.specs.Kinds.{as-standing}
+use Rattle.place_text.specs.Words.{led, stands-led, nothing-led, cut-led, strange-led, not-strange}
 use Rattle.place_text.proofs.put_standing.Statement.{statement}
 use Rattle.place_text.proofs.put_standing.Tie as tie
 
@@ -37,19 +41,40 @@ put-kind-requires : tie.Need-put-kind-requires
 put-kind-requires c κs = search needs
 
 returns : tie.Need-returns
-returns c = ?
+returns c =
+    let k = c .before .before .before in
+    let f = k .before .before in
+    let a = f .before .before .args in
+    put-is (stands-led (a .s .now) (a .place) (sym (ap as-standing (k .«record» .given .1)) ∙ f .record-at .ensures)) (c .put-record .ensures)
 
 returns-2 : tie.Need-returns-2
-returns-2 c = ?
+unfolding led
+returns-2 c =
+    let t = c .before .before .before in
+    let f = t .before .before .before in
+    let a = f .before .before .args in
+    put-is (nothing-led (a .s .now) (a .place) (sym (ap as-standing (t .before .enum-told .given .1)) ∙ f .record-at .ensures) (t .if1 .taken)) (c .put-bytes .ensures)
 
 returns-3 : tie.Need-returns-3
-returns-3 c = ?
+unfolding led
+returns-3 c =
+    let t = c .before .before .before in
+    let f = t .before .before .before in
+    let a = f .before .before .args in
+    put-is (cut-led (a .s .now) (a .place) (sym (ap as-standing (t .before .enum-told .given .1)) ∙ f .record-at .ensures) (t .if1 .left)) (c .put-bytes2 .ensures)
 
 returns-4 : tie.Need-returns-4
-returns-4 c = ?
+returns-4 c =
+    let f = c .before .before .before in
+    let a = f .before .before .args in
+    absurd (not-strange (a .s .now) (a .place) (sym (ap as-standing (c .before .enum-told2 .given .1)) ∙ f .record-at .ensures) (c .if2 .taken))
 
 returns-5 : tie.Need-returns-5
-returns-5 c = ?
+returns-5 c =
+    let t = c .before .before .before in
+    let f = t .before .before .before in
+    let a = f .before .before .args in
+    put-is (strange-led (a .s .now) (a .place) (sym (ap as-standing (t .before .enum-told2 .given .1)) ∙ f .record-at .ensures)) (c .put-kind .ensures)
 
 pub put-standing-spec : {M : Type 1} → statement M
 put-standing-spec =

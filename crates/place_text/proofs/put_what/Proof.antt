@@ -1,7 +1,7 @@
 -- `place_text::put_what` meets its contract: what stands behind the close, or at the place, and a line feed.
 use borrow.Author.Needs.{needs}
-use Rattle.plain.specs.GrownLaws.{put-two}
-use Rattle.place_text.specs.Words.{led}
+use Rattle.plain.specs.GrownLaws.{put-two, put-is}
+use Rattle.place_text.specs.Words.{led, behind-led, at-led}
 use Rattle.place_text.proofs.put_what.Statement.{statement}
 use Rattle.place_text.proofs.put_what.Tie as tie
 
@@ -18,10 +18,15 @@ put-byte-requires : tie.Need-put-byte-requires
 put-byte-requires c κs = search needs
 
 returns : tie.Need-returns
-returns c = ?
+unfolding led
+returns c = put-is (behind-led (c .before .before .before .before .before .args .s .now) (c .before .before .before .before .before .args .number) (c .before .before .before .before .before .args .place) (c .before .before .before .if1 .taken)) (c .put-bytes .ensures)
 
 returns-2 : tie.Need-returns-2
-returns-2 c = ?
+returns-2 c =
+    let b = c .before .before in
+    let t = b .before .before in
+    let a = t .before .before .args in
+    put-is (at-led (a .s .now) (a .number) (a .place) (t .if1 .left)) (put-two (b .put-standing .ensures) (c .put-byte .ensures))
 
 pub put-what-spec : {M : Type 1} → statement M
 put-what-spec =
