@@ -19,7 +19,10 @@ put-byte-requires c κs = search needs
 
 returns : tie.Need-returns
 unfolding led
-returns c = put-is (behind-led (c .before .before .before .before .before .args .s .now) (c .before .before .before .before .before .args .number) (c .before .before .before .before .before .args .place) (c .before .before .before .if1 .taken)) (c .put-bytes .ensures)
+returns c =
+    let t = c .before .before .before in
+    let a = t .before .before .args in
+    put-is (behind-led (a .s .now) (a .number) (a .place) (t .if1 .taken)) (c .put-bytes .ensures)
 
 returns-2 : tie.Need-returns-2
 returns-2 c =
