@@ -1,6 +1,6 @@
 -- `place_text::put_standing` meets its contract: one arm for each of what may stand at the place.
-use borrow.Author.Needs.{needs}
 use mathlib.Core.Path.{sym, ap, _∙_}
+use borrow.Author.Needs.{needs}
 use Rattle.plain.specs.GrownLaws.{put-is}
 use Rattle.record.specs.Kinds.{as-standing}
 use Rattle.place_text.specs.Words.{led, stands-led, nothing-led, cut-led, strange-led, not-strange}
