@@ -1,13 +1,16 @@
 // Which record the place of a refused run file means, as bytes.
-ghost use mathlib.Core.List.{[]};
+ghost use mathlib.Core.List.{[], _∷_, _++_};
 ghost use mathlib.Core.Path.{_≡_};
 ghost use Prim.Native.Nat.{_<_, _≤_};
 ghost use lib.ListN.{length};
+ghost use Rattle.run.specs.Places.{input-at, reading-at};
+ghost use Rattle.plain.specs.Digits.{decimal};
 ghost use Rattle.plain.specs.Grown.{Put};
 ghost use Rattle.plain.specs.Plain as P;
 ghost use Rattle.reader.specs.Meaning.{meaning};
 ghost use Rattle.record.specs.Kinds.{as-record};
 ghost use Rattle.place_text.specs.Place as S;
+ghost use Rattle.place_text.specs.Words.{head, led, what-words};
 use detail::Detail;
 use held::record_at;
 use plain::Printed;
@@ -91,6 +94,7 @@ fn number_records(s: &[u8], limit: usize, labels: &mut [usize; 231], y: &mut [i6
 // ---- a record in words
 fn put_opening(out: &mut [u8; 831], at: usize, m: usize, n: usize) -> usize
     requires { ⌜ length (now out) ≡ 831 ⌝ }
+    ensures { λ k. ⌜ Put (now (out .entry)) at (led (S.record-words (as-record (Record.Opening m n)))) (now (out .exit)) k ⌝ }
 {
     let points = put_bytes(out, at, b" points ");
     let m_told = put_decimal(out, points, m as u64);
@@ -100,6 +104,7 @@ fn put_opening(out: &mut [u8; 831], at: usize, m: usize, n: usize) -> usize
 
 fn put_point(out: &mut [u8; 831], at: usize, i: usize) -> usize
     requires { ⌜ length (now out) ≡ 831 ⌝ }
+    ensures { λ k. ⌜ Put (now (out .entry)) at (led (S.place-words (input-at i))) (now (out .exit)) k ⌝ }
 {
     let point = put_bytes(out, at, b" point ");
     put_decimal(out, point, i as u64)
@@ -107,6 +112,7 @@ fn put_point(out: &mut [u8; 831], at: usize, i: usize) -> usize
 
 fn put_reading(out: &mut [u8; 831], at: usize, s: usize, c: usize, i: usize) -> usize
     requires { ⌜ length (now out) ≡ 831 ⌝ }
+    ensures { λ k. ⌜ Put (now (out .entry)) at (led (S.place-words (reading-at s c i))) (now (out .exit)) k ⌝ }
 {
     if s < 2 {
         let space = plain::put_byte(out, at, b' ');
@@ -118,6 +124,7 @@ fn put_reading(out: &mut [u8; 831], at: usize, s: usize, c: usize, i: usize) -> 
 
 fn put_record(out: &mut [u8; 831], at: usize, r: Record) -> usize
     requires { ⌜ length (now out) ≡ 831 ⌝ }
+    ensures { λ k. ⌜ Put (now (out .entry)) at (led (S.record-words (as-record r))) (now (out .exit)) k ⌝ }
 {
     match r {
         Record::Opening { m, n } => put_opening(out, at, m, n),
@@ -134,6 +141,7 @@ fn put_record(out: &mut [u8; 831], at: usize, r: Record) -> usize
 
 fn put_kind(out: &mut [u8; 831], at: usize, kind: u8) -> usize
     requires { ⌜ length (now out) ≡ 831 ⌝ }
+    ensures { λ k. ⌜ Put (now (out .entry)) at (led (S.kind-name ∷ decimal kind ∷ [])) (now (out .exit)) k ⌝ }
 {
     let word = put_bytes(out, at, b" kind ");
     put_decimal(out, word, kind as u64)
@@ -142,6 +150,7 @@ fn put_kind(out: &mut [u8; 831], at: usize, kind: u8) -> usize
 // What stands at an offset.
 fn put_standing(out: &mut [u8; 831], at: usize, s: &[u8], place: usize) -> usize
     requires { ⌜ length (now out) ≡ 831 ⌝ }
+    ensures { λ k. ⌜ Put (now (out .entry)) at (led (S.words-at (now (s .entry)) place)) (now (out .exit)) k ⌝ }
 {
     match record_at(s, place, place == 0) {
         Found::Item { record, next: _ } => put_record(out, at, record),
@@ -164,6 +173,7 @@ fn put_standing(out: &mut [u8; 831], at: usize, s: &[u8], place: usize) -> usize
 
 fn put_head(out: &mut [u8; 831], at: usize, k: usize) -> usize
     requires { ⌜ length (now out) ≡ 831 ⌝ }
+    ensures { λ r. ⌜ Put (now (out .entry)) at (head k) (now (out .exit)) r ⌝ }
 {
     let word = put_bytes(out, at, b"record ");
     let told = put_decimal(out, word, k as u64);
@@ -221,6 +231,7 @@ fn more_of_point(
 // ---- the lines
 fn put_what(out: &mut [u8; 831], at: usize, s: &[u8], number: usize, place: usize) -> usize
     requires { ⌜ length (now out) ≡ 831 ⌝ }
+    ensures { λ k. ⌜ Put (now (out .entry)) at (led (what-words (now (s .entry)) number place) ++ (10 ∷ [])) (now (out .exit)) k ⌝ }
 {
     if number == 8 {
         put_bytes(out, at, b" behind the close\n")

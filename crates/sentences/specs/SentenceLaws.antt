@@ -43,7 +43,7 @@ unfolding spaced
 lie-apart noun high low = simp append-assoc
 
 -- ---- lengths
-either : (b : Bool) {x y : List ℕ} {n : ℕ} → Most x n → Most y n → Most (cond b x y) n
+pub either : (b : Bool) {x y : List ℕ} {n : ℕ} → Most x n → Most y n → Most (cond b x y) n
 either true h k = h
 either false h k = k
 
@@ -61,7 +61,7 @@ sentence-most number =
     (either (eqb number 50) (record { most = omega arith })
     (record { most = omega arith }))))))))))
 
-stroke-most : (s : ℕ) → Most (stroke-word s) 4
+pub stroke-most : (s : ℕ) → Most (stroke-word s) 4
 stroke-most s = either (eqb s 0) (record { most = omega arith }) (word down-word)
 
 module _ (noun : List ℕ) where
