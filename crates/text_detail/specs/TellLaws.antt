@@ -4,6 +4,7 @@ use mathlib.Core.Bool.{cond, _&&_}
 use mathlib.Core.List.{List, []}
 use Prim.Native.Nat.{ℕ, _-_, _<_, _≤_}
 use native.Mathlib.Omega.{arith}
+use borrow.Author.Tests.{ne-eqb}
 use lib.Dec.{T, ltb, lt→ltb}
 use lib.IntN.{ℤ}
 use lib.ListN.{getD}
@@ -31,6 +32,7 @@ use Rattle.detail.specs.Marks.{entries, Marked, LabelOf, Missing, FarApart}
 use Rattle.detail.specs.Marking.{reading-count}
 use Rattle.detail.specs.DetailLaws.{clean-fits, closed-there}
 use Rattle.detail.specs.declared.Detail.{Detail}
+use Rattle.detail.specs.declared.Detail.the-variants as D
 use Rattle.detail.specs.declared.Detail.the-variants.{Apart}
 use Rattle.text.specs.Text.{heard, text}
 use Rattle.typed_text.specs.Method.{Tells}
@@ -47,6 +49,10 @@ nth-heard s line a b c = c ∙ ap says (b ∙ ap (λ (k : ℕ). getD (lines s) k
 -- what is told of a number that is known
 pub detail-by : (s : List ℕ) (line : ℕ) {number k : ℕ} {d : Detail} → number ≡ k → d ≡ detail-at s (given-at k line) → d ≡ detail-at s (given-at number line)
 detail-by s line {number} {k} {d} e q = subst (λ (n : ℕ). d ≡ detail-at s (given-at n line)) (sym e) q
+
+-- of any other number nothing is told
+pub detail-none : (s : List ℕ) (line : ℕ) {number : ℕ} → (number ≡ 42 → ⊥) → (number ≡ 46 → ⊥) → (number ≡ 47 → ⊥) → (number ≡ 50 → ⊥) → D.Nothing ≡ detail-at s (given-at number line)
+detail-none s line {number} a b c d = rw (ne-eqb number 42 a, ne-eqb number 46 b, ne-eqb number 47 c, ne-eqb number 50 d)
 
 -- ---- the line of a record
 pub line-told : {hs : List Said} {r : Record} {labels : List ℕ} {y : List ℤ} {q : ℕ} → Marked (items 1 hs) labels y → LabelOf (as-record r) labels q → LineOf hs r q

@@ -11,7 +11,7 @@ use Rattle.words.specs.Words.{lines, words}
 use Rattle.text_detail.specs.TextDetail.{odd, told-before, lies-apart}
 use Rattle.text_detail.specs.Lines.{ScatteredBy}
 use Rattle.text_detail.specs.NumberLaws.{not-long, seven-fair, ten-apart}
-use Rattle.text_detail.specs.TellLaws.{nth-heard, detail-by}
+use Rattle.text_detail.specs.TellLaws.{nth-heard, detail-by, detail-none}
 use Rattle.text_detail.proofs.by_number.Statement.{statement}
 use Rattle.text_detail.proofs.by_number.Tie as tie
 
@@ -38,13 +38,13 @@ told-before-requires c κs =
     let m = c .before .before .before in
     let s = m .before .before in
     let e = m .match .keys2 in
-    not-long _ _ _ (λ q. omega arith) (s .pre)
+    not-long (s .args .text .now) (s .args .number) (s .args .line) (λ q. omega arith) (s .pre)
 
 lacks-requires : tie.Need-lacks-requires
 lacks-requires c κs =
     let s = c .before .before in
     let e = c .match .keys3 in
-    (not-long _ _ _ (λ q. omega arith) (s .pre), seven-fair _ (s .args .line) (s .pre ∙ ap (λ (k : ℕ). given-at k (s .args .line)) e))
+    (not-long (s .args .text .now) (s .args .number) (s .args .line) (λ q. omega arith) (s .pre), seven-fair (s .args .text .now) (s .args .line) (s .pre ∙ ap (λ (k : ℕ). given-at k (s .args .line)) e))
 
 one-less-requires-3 : tie.Need-one-less-requires-3
 one-less-requires-3 c κs = search needs
@@ -63,7 +63,7 @@ lies-apart-requires c κs =
     let s = m .before .before in
     let e = m .match .keys4 in
     let h = nth-heard (s .args .text .now) (s .args .line) (o .one-less3 .ensures) (l .line3 .ensures) (c .hear2 .ensures) in
-    (not-long _ _ _ (λ q. omega arith) (s .pre), subst (ScatteredBy (heard (s .args .text .now))) (sym h) (ten-apart _ (s .args .line) (s .pre ∙ ap (λ (k : ℕ). given-at k (s .args .line)) e)))
+    (not-long (s .args .text .now) (s .args .number) (s .args .line) (λ q. omega arith) (s .pre), subst (ScatteredBy (heard (s .args .text .now))) (sym h) (ten-apart (s .args .text .now) (s .args .line) (s .pre ∙ ap (λ (k : ℕ). given-at k (s .args .line)) e)))
 
 returns : tie.Need-returns
 returns c =
@@ -94,7 +94,10 @@ returns-4 c =
     detail-by _ _ (m .match .keys4) (c .lies-apart .ensures ∙ ap (lies-apart (text (heard (s .args .text .now)))) (nth-heard (s .args .text .now) (s .args .line) (o .one-less3 .ensures) (l .line3 .ensures) (h .hear2 .ensures)))
 
 returns-5 : tie.Need-returns-5
-returns-5 c = ?
+returns-5 c =
+    let s = c .before .before in
+    let n = c .match .rest in
+    detail-none (s .args .text .now) (s .args .line) (n .0 .0 .0 .1) (n .0 .0 .1) (n .0 .1) (n .1)
 
 pub by-number-spec : {M : Type 1} → statement M
 by-number-spec =
