@@ -1,18 +1,15 @@
 -- What the records of a text tell in the order of its lines: the labels, the points and readings, and the sizes of the first opening are those of the text as a recorded thing.
-use mathlib.Core.Path.{_≡_, refl, sym, _∙_, ap, ap₂, subst}
-use mathlib.Core.Bool.{Bool, true, false, cond, _||_}
+use mathlib.Core.Path.{_≡_, refl, sym, _∙_, ap, subst}
+use mathlib.Core.Bool.{cond}
 use mathlib.Core.List.{List, [], _∷_, _++_, append-assoc}
-use Prim.Native.Nat.{ℕ, suc, _+_, _<_}
+use Prim.Native.Nat.{ℕ, suc, _+_}
 use native.Mathlib.Numerals.{add-one}
-use lib.Dec.{T}
 use lib.IntN.{ℤ}
 use lib.ListN.{length, getD, List·getD-map}
 use Rattle.words.specs.Words.{lines, words}
 use Rattle.run.specs.Places.{Place, input-at, reading-at, same, within}
-use Rattle.records.specs.Record.{Sizes, Entry, close, Labelled, at-label, its, unlabelled, sizes-of, entries-of}
-use Rattle.record.specs.declared.Record.{Record}
+use Rattle.records.specs.Record.{Entry, close, Labelled, at-label, its, unlabelled, sizes-of, entries-of}
 use Rattle.record.specs.declared.Record.the-variants.{Opening, Point, Value, Close}
-use Rattle.record.specs.Kinds.{as-record}
 use Rattle.spoken.specs.Said.{says}
 use Rattle.spoken.specs.declared.Said.{Said}
 use Rattle.spoken.specs.declared.Said.the-variants.{Nothing, Item, Unclear}

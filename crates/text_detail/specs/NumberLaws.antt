@@ -1,12 +1,11 @@
 -- What the number of a refusal tells of a text: any but 48 that it is not too long, 47 that its sizes are fair, 50 that the line named gives the input of a point at which readings lie apart.
 use mathlib.Core.Path.{_≡_, refl, sym, _∙_, ap, subst}
-use mathlib.Core.Bool.{Bool, true, false, not, cond, _&&_, _||_}
+use mathlib.Core.Bool.{Bool, true, false, cond, _&&_, _||_}
 use mathlib.Core.List.{List, [], _∷_}
-use mathlib.Core.Option.{Option, none, some}
 use Prim.Native.Nat.{ℕ, suc, _+_, _-_, _<_, _≤_}
 use native.Mathlib.Decide.{ℕ-discrete}
 use native.Mathlib.Omega.{arith}
-use borrow.Author.Tests.{ltb-true, ltb-false, eqb-true, eqb-false}
+use borrow.Author.Tests.{ltb-false, eqb-true}
 use lib.Dec.{T, ltb, leb, eqb, lt→ltb}
 use lib.ListN.{length, take, getD}
 use Rattle.whole.specs.Flags.{yes-T}
@@ -14,7 +13,6 @@ use Rattle.words.specs.Words.{lines}
 use Rattle.table.specs.Table.{Given, given-at, accepted, told-or, given, First}
 use Rattle.table.specs.Rows.{found-if}
 use Rattle.table.specs.Laws.{exists}
-use Rattle.units.specs.declared.Input.{Input}
 use Rattle.run.specs.Places.{input-at}
 use Rattle.records.specs.Record.{its, sizes-of, entries-of, has}
 use Rattle.records.specs.Meaning.{refusals}

@@ -1,5 +1,5 @@
 -- What the functions that look at the arrays tell is told of the text: the line of a record, the place that is missing, the two readings that lie apart.
-use mathlib.Core.Path.{_≡_, refl, sym, _∙_, ap, ap₂, subst}
+use mathlib.Core.Path.{_≡_, sym, _∙_, ap, ap₂, subst}
 use mathlib.Core.Bool.{cond, _&&_}
 use mathlib.Core.List.{List, []}
 use Prim.Native.Nat.{ℕ, _-_, _<_, _≤_}
@@ -18,8 +18,7 @@ use Rattle.run.specs.Run.{reading, group}
 use Rattle.run.specs.Places.{reading-at, places}
 use Rattle.run.specs.Limits.{stroke-calm}
 use Rattle.run.specs.Laws.{StrokeReady, reading-lent}
-use Rattle.run.specs.declared.Run.{Run}
-use Rattle.records.specs.Record.{Sizes, Entry, Labelled, its, sizes-of, entries-of, number-at}
+use Rattle.records.specs.Record.{Sizes, Entry, its, sizes-of, entries-of, number-at}
 use Rattle.records.specs.Meaning.{fair, run-of}
 use Rattle.records.specs.Framed.{run-at}
 use Rattle.record.specs.declared.Record.{Record}
@@ -27,7 +26,7 @@ use Rattle.record.specs.Kinds.{as-record}
 use Rattle.spoken.specs.Said.{says}
 use Rattle.spoken.specs.declared.Said.{Said}
 use Rattle.spoken.specs.declared.Said.the-variants.{Nothing}
-use Rattle.detail.specs.Detail.{first-lacking, lacking, apart-in, apart-at}
+use Rattle.detail.specs.Detail.{first-lacking, lacking, apart-in}
 use Rattle.detail.specs.Marks.{entries, Marked, LabelOf, Missing, FarApart}
 use Rattle.detail.specs.Marking.{reading-count}
 use Rattle.detail.specs.DetailLaws.{clean-fits, closed-there}
@@ -119,8 +118,8 @@ module _ {hs : List Said} {t : Survey} (tells : Tells hs t) where
     apart-told f =
         let r = run-of (its (text hs)) in
         f .is (items 1 hs) r pic (sym n-told) (sc .lie-apart) (λ s c a b.
-            run-at z (λ p. number-at p (entries-of (its (text hs)))) fair-sizes (reading-at s c i)
-            (yes-and (ltb s 2) (ltb c (z .n) && ltb i (z .m)) (lt→ltb s 2 a)
-            (yes-and (ltb c (z .n)) (ltb i (z .m)) (lt→ltb c (z .n) (omega (arith, n-told))) (lt→ltb i (z .m) (sc .of-run))))
-            ∙ ap (number-at (reading-at s c i)) (sym (entries-text hs)))
+        run-at z (λ p. number-at p (entries-of (its (text hs)))) fair-sizes (reading-at s c i)
+        (yes-and (ltb s 2) (ltb c (z .n) && ltb i (z .m)) (lt→ltb s 2 a)
+        (yes-and (ltb c (z .n)) (ltb i (z .m)) (lt→ltb c (z .n) (omega (arith, n-told))) (lt→ltb i (z .m) (sc .of-run))))
+        ∙ ap (number-at (reading-at s c i)) (sym (entries-text hs)))
         ∙ ap₂ (λ (a b : Detail). cond (stroke-calm r 0 i) a b) (in-text 1) (in-text 0)

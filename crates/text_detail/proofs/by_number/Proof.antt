@@ -1,5 +1,5 @@
 -- `text_detail::by_number` meets its contract: each number tells what its function asks, and its line is the one that is looked at.
-use mathlib.Core.Path.{_≡_, refl, sym, _∙_, ap, subst}
+use mathlib.Core.Path.{sym, _∙_, ap, subst}
 use mathlib.Core.List.{List, []}
 use Prim.Native.Nat.{ℕ}
 use native.Mathlib.Omega.{arith}

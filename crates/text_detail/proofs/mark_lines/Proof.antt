@@ -9,7 +9,7 @@ use Rattle.records.specs.Record.{Labelled}
 use Rattle.detail.specs.Marks.{Marked}
 use Rattle.text.specs.Text.{heard}
 use Rattle.typed_text.specs.HeardLaws.{Next, heard-next, heard-end}
-use Rattle.text_detail.specs.Lines.{item-at, items}
+use Rattle.text_detail.specs.Lines.{items}
 use Rattle.text_detail.specs.LineLaws.{marked-next, marked-all}
 use Rattle.text_detail.proofs.mark_lines.Statement.{statement}
 use Rattle.text_detail.proofs.mark_lines.Tie as tie

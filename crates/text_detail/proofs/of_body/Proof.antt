@@ -1,7 +1,6 @@
 -- `text_detail::of_body` meets its contract: what is told more is told of the number and the line that the text is answered with.
-use mathlib.Core.Path.{refl, sym, _∙_, ap}
+use mathlib.Core.Path.{sym, _∙_, ap}
 use borrow.Author.Needs.{needs}
-
 use Rattle.text_detail.specs.TextDetail.{detail-at}
 use Rattle.text_detail.proofs.of_body.Statement.{statement}
 use Rattle.text_detail.proofs.of_body.Tie as tie
