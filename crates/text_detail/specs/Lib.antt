@@ -1,1 +1,6 @@
 pub mod TextDetail
+pub mod OddLaws
+pub mod Lines
+pub mod LineLaws
+pub mod NumberLaws
+pub mod TellLaws

@@ -5,9 +5,12 @@ ghost use Prim.Native.Nat.{_-_, _<_, _≤_};
 ghost use lib.ListN.{length};
 ghost use Rattle.table.specs.Table.{given-at, given};
 ghost use Rattle.words.specs.Words.{words};
+ghost use Rattle.detail.specs.Marks.{Marked};
+ghost use Rattle.text.specs.Text as S;
 ghost use Rattle.text.specs.Text.{heard, text-refusals};
 ghost use Rattle.text_detail.specs.TextDetail as T;
 ghost use Rattle.text_detail.specs.TextDetail.{text-detail};
+ghost use Rattle.text_detail.specs.Lines.{items, SaidMarked, LineOf, told-apart, FairlyOpened, Scattered, ScatteredBy};
 use detail::Detail;
 use record::Record;
 use spoken::Said;
@@ -16,6 +19,7 @@ use typed_text::survey;
 // ---- where each record of a text stands
 fn mark_said(labels: &mut [usize; 231], y: &mut [i64; 220], h: Said, line: usize)
     requires { ⌜ 0 < line ⌝ }
+    ensures { λ _. ⌜ SaidMarked h line (now (labels .entry)) (now (y .entry)) (now (labels .exit)) (now (y .exit)) ⌝ }
 {
     match h {
         Said::Nothing => {}
@@ -24,7 +28,10 @@ fn mark_said(labels: &mut [usize; 231], y: &mut [i64; 220], h: Said, line: usize
     }
 }
 
-fn mark_lines(text: &[u8], labels: &mut [usize; 231], y: &mut [i64; 220]) {
+fn mark_lines(text: &[u8], labels: &mut [usize; 231], y: &mut [i64; 220])
+    requires { ⌜ Marked [] (now labels) (now y) ⌝ }
+    ensures { λ _. ⌜ Marked (items 1 (heard (now (text .entry)))) (now (labels .exit)) (now (y .exit)) ⌝ }
+{
     let mut k = 0;
     let mut at = 0;
     while at < text.len() {
@@ -49,7 +56,9 @@ fn odd(line: &[u8]) -> Detail
 }
 
 // The first line at the place of a record.
-fn line_of(text: &[u8], r: Record) -> usize {
+fn line_of(text: &[u8], r: Record) -> usize
+    ensures { λ q. ⌜ LineOf (heard (now (text .entry))) r q ⌝ }
+{
     let mut labels = [0; 231];
     let mut y = [0; 220];
     mark_lines(text, &mut labels, &mut y);
@@ -57,7 +66,10 @@ fn line_of(text: &[u8], r: Record) -> usize {
 }
 
 // The line that told first what a record tells once more.
-fn earlier(text: &[u8], r: Record) -> Detail {
+fn earlier(text: &[u8], r: Record) -> Detail
+    requires { ⌜ length (now text) ≤ 65536 ⌝ }
+    ensures { λ d. ⌜ d ≡ T.told-before (heard (now (text .entry))) (Said.Item r) ⌝ }
+{
     match r {
         Record::Opening { m: _, n: _ } => Detail::Earlier {
             label: survey::look_over(text).opening,
@@ -77,7 +89,10 @@ fn earlier(text: &[u8], r: Record) -> Detail {
     }
 }
 
-fn told_before(text: &[u8], h: Said) -> Detail {
+fn told_before(text: &[u8], h: Said) -> Detail
+    requires { ⌜ length (now text) ≤ 65536 ⌝ }
+    ensures { λ d. ⌜ d ≡ T.told-before (heard (now (text .entry))) h ⌝ }
+{
     match h {
         Said::Nothing => Detail::Nothing,
         Said::Item { record } => earlier(text, record),
@@ -86,7 +101,10 @@ fn told_before(text: &[u8], h: Said) -> Detail {
 }
 
 // The first place that is missing.
-fn lacks(text: &[u8]) -> Detail {
+fn lacks(text: &[u8]) -> Detail
+    requires { ⌜ (length (now text) ≤ 65536) × FairlyOpened (heard (now text)) ⌝ }
+    ensures { λ d. ⌜ d ≡ T.lacks (S.text (heard (now (text .entry)))) ⌝ }
+{
     let t = survey::look_over(text);
     let mut labels = [0; 231];
     let mut y = [0; 220];
@@ -95,7 +113,10 @@ fn lacks(text: &[u8]) -> Detail {
 }
 
 // The two lines of readings at point i that lie apart.
-fn apart_at(text: &[u8], i: usize) -> Detail {
+fn apart_at(text: &[u8], i: usize) -> Detail
+    requires { ⌜ (length (now text) ≤ 65536) × Scattered (heard (now text)) i ⌝ }
+    ensures { λ d. ⌜ d ≡ told-apart (heard (now (text .entry))) i ⌝ }
+{
     let t = survey::look_over(text);
     let mut labels = [0; 231];
     let mut y = [0; 220];
@@ -103,7 +124,10 @@ fn apart_at(text: &[u8], i: usize) -> Detail {
     detail::apart(t.n, &labels, &y, i)
 }
 
-fn apart_by(text: &[u8], r: Record) -> Detail {
+fn apart_by(text: &[u8], r: Record) -> Detail
+    requires { ⌜ (length (now text) ≤ 65536) × ScatteredBy (heard (now text)) (Said.Item r) ⌝ }
+    ensures { λ d. ⌜ d ≡ T.lies-apart (S.text (heard (now (text .entry)))) (Said.Item r) ⌝ }
+{
     match r {
         Record::Opening { m: _, n: _ } => Detail::Nothing,
         Record::Point { index, x: _ } => apart_at(text, index),
@@ -117,7 +141,10 @@ fn apart_by(text: &[u8], r: Record) -> Detail {
     }
 }
 
-fn lies_apart(text: &[u8], h: Said) -> Detail {
+fn lies_apart(text: &[u8], h: Said) -> Detail
+    requires { ⌜ (length (now text) ≤ 65536) × ScatteredBy (heard (now text)) h ⌝ }
+    ensures { λ d. ⌜ d ≡ T.lies-apart (S.text (heard (now (text .entry)))) h ⌝ }
+{
     match h {
         Said::Nothing => Detail::Nothing,
         Said::Item { record } => apart_by(text, record),
