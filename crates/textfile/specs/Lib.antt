@@ -5,3 +5,4 @@ pub mod Listed
 pub mod Back
 pub mod Witness
 pub mod Written
+pub mod More
