@@ -6,18 +6,20 @@ use mathlib.Core.Option.{Option, none, some}
 use Prim.Native.Nat.{ℕ, suc, _+_, _-_, _<_, _≤_}
 use native.Mathlib.Numerals.{add-one}
 use native.Mathlib.Omega.{arith}
-use borrow.Author.Tests.{eqb-true, eqb-false, ne-eqb, eq-eqb, lt-ltb, le-ltb, ltb-true, ltb-false, lt-leb, le-leb}
+use borrow.Author.Tests.{eqb-true, eqb-false, ne-eqb, eq-eqb, lt-ltb, le-ltb, ltb-true, ltb-false, lt-leb, le-leb, leb-false}
 use lib.Dec.{ltb, leb, eqb}
 use lib.IntN.{ℤ}
 use lib.ListN.{length, getD, take, drop, length-append}
 use Rattle.whole.specs.Flags.{apart}
-use Rattle.records.specs.Record.{Sizes, Record, opening, unknown, cut, Labelled, at-label, Recorded, closes}
+use Rattle.run.specs.PlaceLaws.{and-true}
+use Rattle.records.specs.Record.{Sizes, Entry, Record, opening, entry, unknown, cut, Labelled, at-label, Recorded, closes}
 use Rattle.format.specs.Format.{kind-of, alone, in-front, up-to-close}
 use Rattle.format.specs.Found.{Standing, stands, ends, strange, standing-of, standing-at, stands-within, from, met, met-at}
 use Rattle.record.specs.Kinds.{opening-kind, run-file}
-use Rattle.detail.specs.Marks.{Marked, Marking}
+use Rattle.detail.specs.Marks.{Marked, Marking, LabelOf}
 use Rattle.detail.specs.Marking.{marking-none}
 use Rattle.detail.specs.declared.Detail.{Detail}
+use Rattle.detail.specs.declared.Detail.the-variants.{Nothing, Earlier}
 use Rattle.place_text.specs.Place.{before, numbered, passed-over, first-told}
 use Rattle.place_text.specs.declared.Step.{Step}
 
@@ -73,20 +75,29 @@ first-opens s {r} {end} = go (leb (length s) 0) (eqb (getD s 0 0) 1)
         sized false q = let e : 3 ≡ end = cc in let f : r ≡ opening (first-sizes s) = cc in ((first-sizes s, f), omega (arith, e))
 
 -- ---- one step
--- the number one higher fits where the place is below the length
-pub fitting : {k at : ℕ} → k ≤ most at → k ≤ suc at
-fitting {k} {at} h = go (eqb at 0) refl h
-  where
-    go : (b : Bool) → eqb at 0 ≡ b → k ≤ cond b 1 at → k ≤ suc at
-    go true e h = omega arith
-    go false e h = omega arith
+-- the number one higher fits where a byte stands at the place
+module _ (k at len highest : ℕ) (low : k ≤ most at) (fits : len ≤ highest) (two : 2 ≤ highest) where
+  pub room-more : at < len → k + 1 ≤ highest
+  room-more l = go (eqb at 0) low
+    where
+      go : (b : Bool) → k ≤ cond b 1 at → k + 1 ≤ highest
+      go true h = omega arith
+      go false h = omega arith
 
-pub room-more : {k at len most-len : ℕ} → k ≤ most at → at < len → len ≤ most-len → 2 ≤ most-len → k + 1 ≤ most-len
-room-more {k} {at} {len} {most-len} h l m n = go (eqb at 0) h
+  pub room-behind : k ≤ highest → k + cond (ltb at len) 1 0 ≤ highest
+  room-behind own = go (ltb at len) refl
+    where
+      go : (b : Bool) → ltb at len ≡ b → k + cond b 1 0 ≤ highest
+      go true e = room-more (ltb-true at len e)
+      go false e = omega arith
+
+-- a kind that may not stand there is a byte
+pub strange-within : (first : Bool) (s : List ℕ) (at : ℕ) → standing-at run-file first s at ≡ strange → at < length s
+strange-within first s at = go (leb (length s) at) refl
   where
-    go : (b : Bool) → k ≤ cond b 1 at → k + 1 ≤ most-len
-    go true h = omega arith
-    go false h = omega arith
+    go : (b : Bool) → leb (length s) at ≡ b → cond b ends (standing-of (kind-of first run-file (getD s at 0)) s at) ≡ strange → at < length s
+    go true e q = let z : _≡_ {A = ℕ} 0 1 = cc in absurd (omega arith)
+    go false e q = leb-false (length s) at e
 
 module _ (s : List ℕ) (k at : ℕ) where
   from-is : (st : Standing) → standing-at run-file (eqb at 0) s at ≡ st → from run-file (eqb at 0) s at ≡ met run-file s at st
@@ -203,6 +214,14 @@ nothing-before s limit t over = go (eqb (t .more) 0) refl
     go false e = let n = eqb-false (t .more) 0 e in none-from s limit (t .at) (beyond (omega (arith, n)) (ltb (t .at) limit) refl) (eqb (t .at) 0)
 
 -- ---- the walk
+-- its test
+module _ {more at limit : ℕ} {b : Bool} (e : b ≡ (ltb 0 more && ltb at limit)) where
+  pub test-held : b ≡ true → (0 < more) × (at < limit)
+  test-held h = let k = and-true (sym e ∙ h) in (ltb-true 0 more (k .0), ltb-true at limit (k .1))
+
+  pub test-failed : b ≡ false → 0 < more → at < limit → ⊥
+  test-failed h m a = apart (sym (e ∙ rw (lt-ltb 0 more m, lt-ltb at limit a)) ∙ h)
+
 -- at its start
 pub walk-begins : (s : List ℕ) (limit : ℕ) {labels : List ℕ} {y : List ℤ} → Marked [] labels y → Walked s limit labels y (record { more = 1; k = 1; at = 0 })
 walk-begins s limit pic = record {
@@ -258,3 +277,12 @@ module _ {s : List ℕ} {limit : ℕ} {labels : List ℕ} {y : List ℤ} {t : St
     where
       whole : passed-over s limit ≡ w .done
       whole = w .all ∙ ap (λ (l : List Labelled). w .done ++ numbered (t .k) l) (nothing-before s limit t over) ∙ append-nil (w .done)
+
+-- ---- the record that told it first, by what stands at the place
+module _ {s : List ℕ} {place : ℕ} {labels : List ℕ} (st : Standing) (q : standing-at run-file false s place ≡ st) where
+  pub told-none : ((xs : List Labelled) → Nothing ≡ first-told xs st) → FirstTold s place labels Nothing
+  told-none h = record { is = λ xs y pic. h xs ∙ ap (first-told xs) (sym q) }
+
+pub told-entry : {s : List ℕ} {place : ℕ} {labels : List ℕ} {e : Entry} {end l : ℕ} → standing-at run-file false s place ≡ stands (entry e) end → LabelOf (entry e) labels l
+    → FirstTold s place labels (Earlier l)
+told-entry {e = e} q m = record { is = λ xs y pic. ap Earlier (m .is xs y e pic refl) ∙ ap (first-told xs) (sym q) }
