@@ -19,8 +19,10 @@ both-requires c κs = search needs
 pass-requires : tie.Need-pass-requires Inv-loop μ-loop
 pass-requires c κs =
     let then = c .before .before in
-    let h = test-held (then .before .both .ensures) (then .if1 .taken) in
-    let w = then .before .before .before .before .loop .inv in
+    let at-loop = then .before .before .before .before in
+    let t = at-loop .loop .t in
+    let h = test-held {more = t .more} {at = t .at} {limit = at-loop .before .before .args .limit} (then .before .both .ensures) (then .if1 .taken) in
+    let w = at-loop .loop .inv in
     (number-some w, w .room (h .0) .1)
 
 loop-less : tie.Need-loop-less Inv-loop μ-loop
