@@ -13,6 +13,7 @@ ghost use Rattle.record.specs.Kinds.{as-record};
 ghost use Rattle.detail.specs.Marks.{Marked};
 ghost use Rattle.place_text.specs.Place as S;
 ghost use Rattle.place_text.specs.Walk as W;
+ghost use Rattle.place_text.specs.Told.{OfRecord, OfPoint};
 use detail::Detail;
 use held::record_at;
 use plain::Printed;
@@ -210,7 +211,10 @@ fn first_told(s: &[u8], place: usize, labels: &[usize; 231]) -> Detail
     }
 }
 
-fn more_at(s: &[u8], number: usize, place: usize, labels: &[usize; 231]) -> Detail {
+fn more_at(s: &[u8], number: usize, place: usize, labels: &[usize; 231]) -> Detail
+    requires { ⌜ OfRecord (now s) number place (now labels) ⌝ }
+    ensures { λ d. ⌜ d ≡ S.detail-of (now (s .entry)) number place ⌝ }
+{
     if number == 6 {
         return first_told(s, place, labels);
     }
@@ -227,7 +231,10 @@ fn more_of_point(
     place: usize,
     labels: &[usize; 231],
     y: &[i64; 220],
-) -> Detail {
+) -> Detail
+    requires { ⌜ OfPoint (now s) number place (now labels) (now y) ⌝ }
+    ensures { λ d. ⌜ d ≡ S.detail-of (now (s .entry)) number place ⌝ }
+{
     if number != 10 {
         return Detail::Nothing;
     }

@@ -1,35 +1,32 @@
+-- `place_text::more_at` meets its contract: 6 is told of the record at the place, 7 of the records before the close, which are all that tell an entry.
 use borrow.Author.Needs.{needs}
+use Rattle.place_text.specs.Told.{record-six, record-none, seven-few, record-seven}
 use Rattle.place_text.proofs.more_at.Statement.{statement}
 use Rattle.place_text.proofs.more_at.Tie as tie
-use Rattle.place_text.proofs.more_at.Reads as reads
-use Rattle.place_text.proofs.more_at.Lts as lts
-use Rattle.detail.proofs.missing.Reads as missing-reads
-use Rattle.place_text.proofs.first_told.Reads as first-told-reads
-use Rattle.reader.proofs.opening.Reads as opening-reads
 
--- src/lib.rt:215:9
 first-told-requires : tie.Need-first-told-requires
 first-told-requires c κs = search needs
 
--- src/lib.rt:215:9
 returns : tie.Need-returns
-returns c = search needs
+returns c =
+    let then = c .before in
+    record-six (then .before .before .pre) (then .if1 .taken) (c .first-told .ensures)
 
--- src/lib.rt:218:13
 opening-requires : tie.Need-opening-requires
 opening-requires c κs = search needs
 
--- src/lib.rt:219:9
 missing-requires : tie.Need-missing-requires
-missing-requires c κs = search needs
+missing-requires c κs =
+    let then = c .before in
+    seven-few (then .before .before .before .pre) (then .if2 .taken) (c .opening .ensures .0)
 
--- src/lib.rt:219:9
 returns-2 : tie.Need-returns-2
-returns-2 c = search needs
+returns-2 c =
+    let then = c .before .before in
+    record-seven (then .before .before .before .pre) (then .if2 .taken) (c .before .opening .ensures .0) (c .missing .ensures)
 
--- src/lib.rt:213:1
 returns-3 : tie.Need-returns-3
-returns-3 c = search needs
+returns-3 c = record-none (c .before .before .before .pre) (c .before .if1 .left) (c .if2 .left)
 
 pub more-at-spec : {M : Type 1} → statement M
 more-at-spec =

@@ -1,26 +1,24 @@
+-- `place_text::more_of_point` meets its contract: 10 is told of a run without fault, so its readings may be subtracted, and two at the point lie apart.
 use borrow.Author.Needs.{needs}
+use Rattle.place_text.specs.Told.{point-none, ten-strokes, point-ten}
 use Rattle.place_text.proofs.more_of_point.Statement.{statement}
 use Rattle.place_text.proofs.more_of_point.Tie as tie
-use Rattle.place_text.proofs.more_of_point.Reads as reads
-use Rattle.place_text.proofs.more_of_point.Lts as lts
-use Rattle.detail.proofs.apart.Reads as apart-reads
-use Rattle.reader.proofs.opening.Reads as opening-reads
 
--- src/lib.rt:232:9
 returns : tie.Need-returns
-returns c = search needs
+returns c = point-none (c .before .before .pre) (c .if1 .taken)
 
--- src/lib.rt:234:9
 opening-requires : tie.Need-opening-requires
 opening-requires c κs = search needs
 
--- src/lib.rt:235:5
 apart-requires : tie.Need-apart-requires
-apart-requires c κs = search needs
+apart-requires c κs =
+    let o = c .before in
+    ten-strokes (o .before .before .pre) (o .if1 .left) (c .opening .ensures .0)
 
--- src/lib.rt:224:1
 returns-2 : tie.Need-returns-2
-returns-2 c = search needs
+returns-2 c =
+    let o = c .before .before in
+    point-ten (o .before .before .pre) (o .if1 .left) (c .before .opening .ensures .0) (c .apart .ensures)
 
 pub more-of-point-spec : {M : Type 1} → statement M
 more-of-point-spec = tie.close (tie.spec returns opening-requires apart-requires returns-2)
