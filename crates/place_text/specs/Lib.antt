@@ -1,2 +1,4 @@
 pub mod Place
 pub mod Words
+pub mod Walk
+pub mod Told

@@ -1,16 +1,23 @@
 // Which record the place of a refused run file means, as bytes.
 ghost use mathlib.Core.List.{[], _∷_, _++_};
+ghost use mathlib.Core.Bool.{cond};
 ghost use mathlib.Core.Path.{_≡_};
 ghost use Prim.Native.Nat.{_<_, _≤_};
+ghost use lib.Dec.{ltb};
 ghost use lib.ListN.{length};
 ghost use Rattle.run.specs.Places.{input-at, reading-at};
 ghost use Rattle.plain.specs.Digits.{decimal};
 ghost use Rattle.plain.specs.Grown.{Put};
 ghost use Rattle.plain.specs.Plain as P;
 ghost use Rattle.reader.specs.Meaning.{meaning};
+ghost use Rattle.records.specs.Record.{closes};
 ghost use Rattle.record.specs.Kinds.{as-record};
+ghost use Rattle.detail.specs.Marks.{Marked};
+ghost use Rattle.sentences.specs.Sentences.{record-name, detail-line};
 ghost use Rattle.place_text.specs.Place as S;
 ghost use Rattle.place_text.specs.Words.{head, led, what-words};
+ghost use Rattle.place_text.specs.Walk as W;
+ghost use Rattle.place_text.specs.Told.{Means, OfRecord, OfPoint};
 use detail::Detail;
 use held::record_at;
 use plain::Printed;
@@ -20,7 +27,9 @@ use record::Found;
 use record::Record;
 
 // ---- the records, numbered
-fn is_close(r: Record) -> bool {
+fn is_close(r: Record) -> bool
+    ensures { λ b. ⌜ b ≡ closes (as-record r) ⌝ }
+{
     match r {
         Record::Opening { m: _, n: _ } => false,
         Record::Point { index: _, x: _ } => false,
@@ -42,12 +51,17 @@ struct Step {
 }
 
 // A record that is not all there counts as one, if its kind is there.
-fn behind(at: usize, len: usize) -> usize {
+fn behind(at: usize, len: usize) -> usize
+    ensures { λ k. ⌜ k ≡ cond (ltb at len) 1 0 ⌝ }
+{
     if at < len { 1 } else { 0 }
 }
 
 // Puts down the number of the record at `at`, and goes behind it.
-fn pass(s: &[u8], labels: &mut [usize; 231], y: &mut [i64; 220], k: usize, at: usize) -> Step {
+fn pass(s: &[u8], labels: &mut [usize; 231], y: &mut [i64; 220], k: usize, at: usize) -> Step
+    requires { ⌜ (0 < k) × (k ≤ W.most at) ⌝ }
+    ensures { λ t. ⌜ W.Passed (now (s .entry)) k at (now (labels .entry)) (now (y .entry)) (now (labels .exit)) (now (y .exit)) t ⌝ }
+{
     match record_at(s, at, at == 0) {
         Found::Item { record, next } => {
             detail::mark(labels, y, record, k);
@@ -79,7 +93,10 @@ fn pass(s: &[u8], labels: &mut [usize; 231], y: &mut [i64; 220], k: usize, at: u
 }
 
 // The numbers of the records that stand before an offset, counted from 1, and the counts of the readings among them. Answers the number behind the last of them.
-fn number_records(s: &[u8], limit: usize, labels: &mut [usize; 231], y: &mut [i64; 220]) -> usize {
+fn number_records(s: &[u8], limit: usize, labels: &mut [usize; 231], y: &mut [i64; 220]) -> usize
+    requires { ⌜ Marked [] (now labels) (now y) ⌝ }
+    ensures { λ k. ⌜ W.Numbered (now (s .entry)) limit (now (labels .exit)) (now (y .exit)) k ⌝ }
+{
     let mut t = Step {
         more: 1,
         k: 1,
@@ -181,7 +198,9 @@ fn put_head(out: &mut [u8; 831], at: usize, k: usize) -> usize
 }
 
 // ---- what more is told
-fn first_told(s: &[u8], place: usize, labels: &[usize; 231]) -> Detail {
+fn first_told(s: &[u8], place: usize, labels: &[usize; 231]) -> Detail
+    ensures { λ d. ⌜ W.FirstTold (now (s .entry)) place (now (labels .entry)) d ⌝ }
+{
     match record_at(s, place, false) {
         Found::Item { record, next: _ } => match record {
             Record::Opening { m: _, n: _ } => Detail::Nothing,
@@ -203,7 +222,10 @@ fn first_told(s: &[u8], place: usize, labels: &[usize; 231]) -> Detail {
     }
 }
 
-fn more_at(s: &[u8], number: usize, place: usize, labels: &[usize; 231]) -> Detail {
+fn more_at(s: &[u8], number: usize, place: usize, labels: &[usize; 231]) -> Detail
+    requires { ⌜ OfRecord (now s) number place (now labels) ⌝ }
+    ensures { λ d. ⌜ d ≡ S.detail-of (now (s .entry)) number place ⌝ }
+{
     if number == 6 {
         return first_told(s, place, labels);
     }
@@ -220,7 +242,10 @@ fn more_of_point(
     place: usize,
     labels: &[usize; 231],
     y: &[i64; 220],
-) -> Detail {
+) -> Detail
+    requires { ⌜ OfPoint (now s) number place (now labels) (now y) ⌝ }
+    ensures { λ d. ⌜ d ≡ S.detail-of (now (s .entry)) number place ⌝ }
+{
     if number != 10 {
         return Detail::Nothing;
     }
@@ -243,7 +268,8 @@ fn put_what(out: &mut [u8; 831], at: usize, s: &[u8], number: usize, place: usiz
 
 // 1 to 8 are told of the record at their place.
 fn put_at(out: &mut [u8; 831], at: usize, s: &[u8], number: usize, place: usize) -> usize
-    requires { ⌜ length (now out) ≡ 831 ⌝ }
+    requires { ⌜ (length (now out) ≡ 831) × Means (now s) number place × (number < 9) ⌝ }
+    ensures { λ k. ⌜ Put (now (out .entry)) at (S.told-of (now (s .entry)) number place ++ detail-line record-name (S.detail-of (now (s .entry)) number place)) (now (out .exit)) k ⌝ }
 {
     let mut labels = [0; 231];
     let mut y = [0; 220];
@@ -255,7 +281,8 @@ fn put_at(out: &mut [u8; 831], at: usize, s: &[u8], number: usize, place: usize)
 
 // 9 and 10 are told of the record that gives the point's input.
 fn put_of_point(out: &mut [u8; 831], at: usize, s: &[u8], number: usize, place: usize) -> usize
-    requires { ⌜ length (now out) ≡ 831 ⌝ }
+    requires { ⌜ (length (now out) ≡ 831) × Means (now s) number place × (9 ≤ number) ⌝ }
+    ensures { λ k. ⌜ Put (now (out .entry)) at (S.told-of (now (s .entry)) number place ++ detail-line record-name (S.detail-of (now (s .entry)) number place)) (now (out .exit)) k ⌝ }
 {
     let mut labels = [0; 231];
     let mut y = [0; 220];
