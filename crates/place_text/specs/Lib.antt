@@ -2,3 +2,4 @@ pub mod Place
 pub mod Words
 pub mod Walk
 pub mod Told
+pub mod Lines

@@ -2,18 +2,18 @@
 use mathlib.Core.Path.{_≡_, refl, sym, ap, _∙_, subst}
 use mathlib.Core.Bool.{Bool, true, false, cond, _&&_}
 use mathlib.Core.List.{List, [], _∷_, _++_, append-assoc, append-nil}
-use mathlib.Core.Option.{Option, none, some}
+use mathlib.Core.Option.{none, some}
 use Prim.Native.Nat.{ℕ, suc, _+_, _-_, _<_, _≤_}
 use native.Mathlib.Numerals.{add-one}
 use native.Mathlib.Omega.{arith}
-use borrow.Author.Tests.{eqb-true, eqb-false, ne-eqb, eq-eqb, lt-ltb, le-ltb, ltb-true, ltb-false, lt-leb, le-leb, leb-false}
+use borrow.Author.Tests.{eqb-true, eqb-false, ne-eqb, lt-ltb, le-ltb, ltb-true, ltb-false, lt-leb, le-leb, leb-false}
 use lib.Dec.{ltb, leb, eqb}
 use lib.IntN.{ℤ}
 use lib.ListN.{length, getD, take, drop, length-append}
 use Rattle.whole.specs.Flags.{apart}
 use Rattle.run.specs.PlaceLaws.{and-true}
 use Rattle.records.specs.Record.{Sizes, Entry, Record, opening, entry, unknown, cut, Labelled, at-label, Recorded, closes}
-use Rattle.format.specs.Format.{kind-of, alone, in-front, up-to-close}
+use Rattle.format.specs.Format.{kind-of, alone, in-front}
 use Rattle.format.specs.Found.{Standing, stands, ends, strange, standing-of, standing-at, stands-within, from, met, met-at}
 use Rattle.record.specs.Kinds.{opening-kind, run-file}
 use Rattle.detail.specs.Marks.{Marked, Marking, LabelOf}

@@ -1,6 +1,4 @@
 -- `place_text::behind` meets its contract: each branch has the test's value.
-use mathlib.Core.Path.{refl}
-use borrow.Author.Needs.{needs}
 use borrow.Author.Tests.{lt-ltb, le-ltb}
 use Rattle.place_text.proofs.behind.Statement.{statement}
 use Rattle.place_text.proofs.behind.Tie as tie

@@ -1,8 +1,6 @@
 -- `place_text::first_told` meets its contract: only a point and a reading have a place, and its label is what the array has.
 use mathlib.Core.Path.{_≡_, refl, sym, ap, _∙_}
 use mathlib.Core.Bool.{false}
-use mathlib.Core.List.{List}
-use Prim.Native.Nat.{ℕ}
 use borrow.Author.Needs.{needs}
 use Rattle.format.specs.Found.{standing-at}
 use Rattle.record.specs.Kinds.{run-file, as-standing}

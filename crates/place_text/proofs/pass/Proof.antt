@@ -1,5 +1,5 @@
 -- `place_text::pass` meets its contract: the step goes by what stands at the place. The number fits, as it is no higher than the place.
-use mathlib.Core.Path.{_≡_, sym, ap, _∙_, subst}
+use mathlib.Core.Path.{_≡_, sym, ap, _∙_}
 use native.Mathlib.Omega.{arith}
 use borrow.Author.Needs.{needs}
 use lib.Dec.{eqb}

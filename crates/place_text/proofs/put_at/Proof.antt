@@ -1,41 +1,40 @@
+-- `place_text::put_at` meets its contract: the head, what the record is, and what more is told, one behind the other.
 use borrow.Author.Needs.{needs}
+use Rattle.plain.specs.GrownLaws.{put-two, put-is}
+use Rattle.detail.specs.Marking.{blank-marked}
+use Rattle.place_text.specs.Lines.{of-record, record-parts}
 use Rattle.place_text.proofs.put_at.Statement.{statement}
 use Rattle.place_text.proofs.put_at.Tie as tie
-use Rattle.place_text.proofs.put_at.Reads as reads
-use Rattle.place_text.proofs.put_at.Lts as lts
-use Rattle.place_text.proofs.more_at.Reads as more-at-reads
-use Rattle.place_text.proofs.number_records.Reads as number-records-reads
-use Rattle.place_text.proofs.put_head.Reads as put-head-reads
-use Rattle.place_text.proofs.put_what.Reads as put-what-reads
-use Rattle.sentences.proofs.put_detail.Reads as put-detail-reads
 
--- src/lib.rt:276:9
 number-records-requires : tie.Need-number-records-requires
-number-records-requires c κs = search needs
+number-records-requires c κs = blank-marked
 
--- src/lib.rt:277:9
 put-head-requires : tie.Need-put-head-requires
-put-head-requires c κs = search needs
+put-head-requires c κs = c .before .before .before .before .before .pre .0
 
--- src/lib.rt:278:9
 put-what-requires : tie.Need-put-what-requires
-put-what-requires c κs = search needs
+put-what-requires c κs = c .before .put-head .ensures .long
 
--- src/lib.rt:279:38
 slice-aggregate-put-detail : tie.Need-slice-aggregate-put-detail
 slice-aggregate-put-detail c = search needs
 
--- src/lib.rt:279:49
 more-at-requires : tie.Need-more-at-requires
-more-at-requires c κs = search needs
+more-at-requires c κs =
+    let n = c .before .before .before .before .before .before .before in
+    let start = n .before .before .before .before in
+    of-record (start .pre .1) (start .pre .2) (n .number-records .ensures)
 
--- src/lib.rt:279:5
 put-detail-requires : tie.Need-put-detail-requires
-put-detail-requires c κs = search needs
+put-detail-requires c κs = c .before .before .before .before .put-what .ensures .long
 
--- src/lib.rt:270:1
 returns : tie.Need-returns
-returns c = search needs
+returns c =
+    let w = c .before .before .before .before .before in
+    let h = w .before .before in
+    let n = h .before .before in
+    let start = n .before .before .before .before in
+    put-is (record-parts (start .pre .1) (start .pre .2) (n .number-records .ensures) (c .before .more-at .ensures))
+    (put-two (h .put-head .ensures) (put-two (w .put-what .ensures) (c .put-detail .ensures)))
 
 pub put-at-spec : {M : Type 1} → statement M
 put-at-spec =

@@ -1,54 +1,56 @@
+-- `place_text::put_of_point` meets its contract: the head with the number of the record that gives the point's input, the point, and what more is told, one behind the other. The point is one of the run, so the array has its label.
+use native.Mathlib.Omega.{arith}
 use borrow.Author.Needs.{needs}
+use Rattle.plain.specs.GrownLaws.{put-two, put-is}
+use Rattle.detail.specs.Marking.{blank-marked}
+use Rattle.place_text.specs.Told.{point-within}
+use Rattle.place_text.specs.Lines.{of-point, point-parts}
 use Rattle.place_text.proofs.put_of_point.Statement.{statement}
 use Rattle.place_text.proofs.put_of_point.Tie as tie
-use Rattle.place_text.proofs.put_of_point.Reads as reads
-use Rattle.place_text.proofs.put_of_point.Lts as lts
-use Rattle.place_text.proofs.more_of_point.Reads as more-of-point-reads
-use Rattle.place_text.proofs.number_records.Reads as number-records-reads
-use Rattle.place_text.proofs.put_head.Reads as put-head-reads
-use Rattle.place_text.proofs.put_point.Reads as put-point-reads
-use Rattle.plain.proofs.put_byte.Reads as put-byte-reads
-use Rattle.sentences.proofs.put_detail.Reads as put-detail-reads
 
--- src/lib.rt:289:5
 number-records-requires : tie.Need-number-records-requires
-number-records-requires c κs = search needs
+number-records-requires c κs = blank-marked
 
--- src/lib.rt:290:34
 mul-put-head : tie.Need-mul-put-head
-mul-put-head c = search needs
+mul-put-head c =
+    let start = c .before .before .before .before .before in
+    omega (arith, point-within (start .pre .1) (start .pre .2))
 
--- src/lib.rt:290:34
 array-read-put-head : tie.Need-array-read-put-head
-array-read-put-head c = search needs
+array-read-put-head c =
+    let start = c .before .before .before .before .before in
+    omega (arith, point-within (start .pre .1) (start .pre .2))
 
--- src/lib.rt:290:9
 put-head-requires : tie.Need-put-head-requires
-put-head-requires c κs = search needs
+put-head-requires c κs = c .before .before .before .before .before .pre .0
 
--- src/lib.rt:291:9
 put-point-requires : tie.Need-put-point-requires
-put-point-requires c κs = search needs
+put-point-requires c κs = c .before .put-head .ensures .long
 
--- src/lib.rt:292:9
 put-byte-requires : tie.Need-put-byte-requires
-put-byte-requires c κs = search needs
+put-byte-requires c κs = c .before .put-point .ensures .long
 
--- src/lib.rt:296:9
 slice-aggregate-put-detail : tie.Need-slice-aggregate-put-detail
 slice-aggregate-put-detail c = search needs
 
--- src/lib.rt:297:9
 more-of-point-requires : tie.Need-more-of-point-requires
-more-of-point-requires c κs = search needs
+more-of-point-requires c κs =
+    let n = c .before .before .before .before .before .before .before .before .before .before in
+    let start = n .before .before .before .before in
+    of-point (start .pre .1) (start .pre .2) (n .number-records .ensures)
 
--- src/lib.rt:293:5
 put-detail-requires : tie.Need-put-detail-requires
-put-detail-requires c κs = search needs
+put-detail-requires c κs = c .before .before .before .before .before .put-byte .ensures .long
 
--- src/lib.rt:283:1
 returns : tie.Need-returns
-returns c = search needs
+returns c =
+    let b = c .before .before .before .before .before .before in
+    let p = b .before .before in
+    let h = p .before .before in
+    let n = h .before .before in
+    let start = n .before .before .before .before in
+    put-is (point-parts (start .pre .1) (start .pre .2) (n .number-records .ensures) (c .before .more-of-point .ensures))
+    (put-two (h .put-head .ensures) (put-two (put-two (p .put-point .ensures) (b .put-byte .ensures)) (c .put-detail .ensures)))
 
 pub put-of-point-spec : {M : Type 1} → statement M
 put-of-point-spec =
