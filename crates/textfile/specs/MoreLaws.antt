@@ -7,7 +7,7 @@ use mathlib.Core.Option.{Option, none, some}
 use Prim.Native.Nat.{ℕ, zero, suc, _+_, _-_, _<_, _≤_}
 use native.Mathlib.Decide.{ℕ-discrete, decLt}
 use native.Mathlib.Omega.{arith}
-use borrow.Author.Tests.{lt-leb, lt-ltb, le-ltb, ltb-true, eqb-true, eq-eqb}
+use borrow.Author.Tests.{lt-leb, lt-ltb, le-ltb, eqb-true, eq-eqb}
 use lib.Dec.{T, ltb, leb, eqb, lt→ltb, ltb→lt}
 use lib.IntN.{ℤ, pos, _-ℤ_}
 use lib.ListN.{length, getD}
@@ -26,23 +26,22 @@ use Rattle.run.specs.PlaceLaws.{same-equal}
 use Rattle.run.specs.Limits.{stroke-calm}
 use Rattle.run.specs.Checks.{nine, ten}
 use Rattle.run.specs.declared.Run.{Run}
-use Rattle.records.specs.Record.{Sizes, Entry, Record, opening, entry, close, unknown, cut, surplus, Labelled, at-label, its, unlabelled, sizes-of, entries-of, closed, empty, has, number-at}
+use Rattle.records.specs.Record.{Sizes, Entry, Record, opening, entry, close, unknown, cut, surplus, Labelled, at-label, its, unlabelled, sizes-of, entries-of, closed, has, number-at}
 use Rattle.records.specs.Meaning.{fair, inside, fits, complete, rows-of, run-of, unclosed, last-rows, refusals}
 use Rattle.records.specs.Sound.{clean}
 use Rattle.records.specs.FirstFault.{first-here, fault, fault-or, given-record}
 use Rattle.records.specs.Framed.{at-spot, run-at}
 use Rattle.record.specs.declared.Record.the-variants.{Opening, Point, Value, Close}
 use Rattle.intake.specs.Faults.{fault-first}
-use Rattle.spoken.specs.Said.{said, nth, odd-word}
+use Rattle.spoken.specs.Said.{said, odd-word}
 use Rattle.spoken.specs.OddLaws.{odd-within, said-odd}
 use Rattle.spoken.specs.declared.Said.{Said}
 use Rattle.spoken.specs.declared.Said.the-variants.{Nothing, Item, Unclear}
-use Rattle.detail.specs.Detail.{stands-at, label-at, told-where, first-lacking, lacking, above, below, apart-in, apart-at}
+use Rattle.detail.specs.Detail.{stands-at, label-at, told-where, lacking, above, below, apart-in, apart-at}
 use Rattle.detail.specs.Marks.{entries}
-use Rattle.detail.specs.DetailLaws.{Gap, Again, Unfilled, LieApart, stroke-apart, six-again, seven-lacks, lacking-gap, ten-scattered, closed-there, far-apart}
-use Rattle.detail.specs.declared.Detail.{Detail}
-use Rattle.detail.specs.declared.Detail.the-variants.{Word, NoWord, Earlier, Apart}
-use Rattle.text.specs.Text.{heard, some-opens, opening-at, entry-at, gathered, text, line-rows, gives-point, point-line, line-refusals, text-refusals}
+use Rattle.detail.specs.DetailLaws.{Again, Unfilled, LieApart, stroke-apart, six-again, seven-lacks, lacking-gap, ten-scattered, closed-there, far-apart}
+use Rattle.detail.specs.declared.Detail.the-variants.{Word, NoWord, Earlier}
+use Rattle.text.specs.Text.{heard, some-opens, opening-at, entry-at, gathered, text, line-rows, gives-point, point-line, line-refusals}
 use Rattle.typed_text.specs.Method.{first-label}
 use Rattle.typed_text.specs.TableLaws.{retell, told-lines, told-unopened, told-records, lines-silent, opens-once}
 use Rattle.text_detail.specs.TextDetail.{nth-line, nth-said, odd, opening-line, told-before, lies-apart, detail-at, body-detail}
