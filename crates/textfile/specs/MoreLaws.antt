@@ -17,7 +17,7 @@ use Rattle.whole.specs.Flags.{T-yes, yes-T, apart, cond-yes, cond-no}
 use Rattle.units.specs.declared.Input.{Input}
 use Rattle.units.specs.declared.Reading.{Reading}
 use Rattle.limits.specs.Laws.{sizes-within}
-use Rattle.words.specs.Words.{lines, words}
+use Rattle.words.specs.Words.{words}
 use Rattle.table.specs.Table.{Row, Given, given-at, accepted, First, told-or, given}
 use Rattle.table.specs.Laws.{exists}
 use Rattle.run.specs.Run.{reading}
@@ -535,36 +535,35 @@ module _ (hs : List Said) (c : T (clean [] (its (text hs)))) (k : T (closed (its
       let g = f .holds in
       point-is i (nth-said hs (point-line 1 hs i)) (line-said (point-named i 1 hs (f .index) (ap (gives-point i) (g .1 .0) ∙ eq-eqb i i refl)))
 
-  two-apart : (s : List ℕ) (i : ℕ) → hs ≡ heard s → body-detail s ≡ lies-apart (text hs) (nth-said hs (point-line 1 hs i)) → i < its-run .m → LieApart its-run (stroke-apart its-run i) i
-      → TwoApart s (point-line 1 hs i)
-  two-apart s i same-lines e h a =
-      let xs = text hs .records in
-      let t = stroke-apart its-run i in
-      let hi = above its-run t i in
-      let lo = below its-run t i in
-      let named = named-line i h in
-      let high-line = reading-line t hi i (a .0) (a .1) h in
-      let low-line = reading-line t lo i (a .0) (a .2) h in
-      let u = line-said high-line in
-      let v = line-said low-line in
-      let said-of : (k : ℕ) → nth-said (heard s) k ≡ nth-said hs k = λ k. ap (λ (l : List Said). nth-said l k) (sym same-lines) in
-      record {
-        high = label-at (reading-at t hi i) xs;
-        low = label-at (reading-at t lo i) xs;
-        stroke = t;
-        higher = hi;
-        lower = lo;
-        point = i;
-        x = named .0;
-        u = u .0;
-        v = v .0;
-        told = e ∙ ap (lies-apart (text hs)) (named .1) ∙ apart-of its-run xs i;
-        named = said-of (point-line 1 hs i) ∙ named .1;
-        high-is = said-of (label-at (reading-at t hi i) xs) ∙ u .1 .0;
-        low-is = said-of (label-at (reading-at t lo i) xs) ∙ v .1 .0;
-        apart = subst (λ (z : ℤ). T (not (leZ (z -ℤ v .0 .count) (pos 10000)))) (sym (u .1 .1))
-            (subst (λ (z : ℤ). T (not (leZ (reading its-run t hi i -ℤ z) (pos 10000)))) (sym (v .1 .1)) (a .3));
-      }
+two-apart : (s : List ℕ) (i : ℕ) → let hs = heard s in let r = run-of (its (text hs)) in T (clean [] (its (text hs))) → T (closed (its (text hs)))
+    → body-detail s ≡ lies-apart (text hs) (nth-said hs (point-line 1 hs i)) → i < r .m → LieApart r (stroke-apart r i) i → TwoApart s (point-line 1 hs i)
+two-apart s i c k e h a =
+    let hs = heard s in
+    let xs = text hs .records in
+    let r = run-of (its (text hs)) in
+    let t = stroke-apart r i in
+    let hi = above r t i in
+    let lo = below r t i in
+    let named = named-line hs c k i h in
+    let u = line-said (reading-line hs c k t hi i (a .0) (a .1) h) in
+    let v = line-said (reading-line hs c k t lo i (a .0) (a .2) h) in
+    record {
+      high = label-at (reading-at t hi i) xs;
+      low = label-at (reading-at t lo i) xs;
+      stroke = t;
+      higher = hi;
+      lower = lo;
+      point = i;
+      x = named .0;
+      u = u .0;
+      v = v .0;
+      told = e ∙ ap (lies-apart (text hs)) (named .1) ∙ apart-of r xs i;
+      named = named .1;
+      high-is = u .1 .0;
+      low-is = v .1 .0;
+      apart = subst (λ (z : ℤ). T (not (leZ (z -ℤ v .0 .count) (pos 10000)))) (sym (u .1 .1))
+          (subst (λ (z : ℤ). T (not (leZ (reading r t hi i -ℤ z) (pos 10000)))) (sym (v .1 .1)) (a .3));
+    }
 
 pub of-50-holds : (s : List ℕ) (l : ℕ) → Refused s 50 l → TwoApart s l
 of-50-holds s l e =
@@ -576,7 +575,7 @@ of-50-holds s l e =
     let t = ten-scattered (text hs) i (first-row hs 10 i (g .0)) in
     let line : nth-said hs l ≡ nth-said hs (point-line 1 hs i) = ap (nth-said hs) (sym (g .1)) in
     subst (TwoApart s) (g .1)
-    (two-apart hs (t .0) (t .1) s i refl (ap (detail-at s) e ∙ ap (lies-apart (text hs)) line) (t .2) (far-apart (run-of (its (text hs))) i (t .3)))
+    (two-apart s i (t .0) (t .1) (ap (detail-at s) e ∙ ap (lies-apart (text hs)) line) (t .2) (far-apart (run-of (its (text hs))) i (t .3)))
 
 -- ---- 42
 -- an entry or the close behind other records is not refused with 2
