@@ -6,3 +6,4 @@ pub mod Back
 pub mod Witness
 pub mod Written
 pub mod More
+pub mod MoreLaws
