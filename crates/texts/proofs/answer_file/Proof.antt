@@ -19,11 +19,11 @@ read-full-requires c κs = search needs
 array-share-prefix-b : tie.Need-array-share-prefix-b
 array-share-prefix-b c = simp length-append (omega arith)
 
-slice-aggregate-answer-listing : tie.Need-slice-aggregate-answer-listing
-slice-aggregate-answer-listing c = sym (length-take-le _ _ (simp length-append (omega arith)))
+slice-aggregate-answer-run : tie.Need-slice-aggregate-answer-run
+slice-aggregate-answer-run c = sym (length-take-le _ _ (simp length-append (omega arith)))
 
-answer-listing-requires : tie.Need-answer-listing-requires
-answer-listing-requires c κs = search needs
+answer-run-requires : tie.Need-answer-run-requires
+answer-run-requires c κs = search needs
 
 returns : tie.Need-returns
 returns c = search needs
@@ -42,8 +42,8 @@ answer-file-spec =
     slice-aggregate-read-full
     read-full-requires
     array-share-prefix-b
-    slice-aggregate-answer-listing
-    answer-listing-requires
+    slice-aggregate-answer-run
+    answer-run-requires
     returns
     returns-2
     returns-3)

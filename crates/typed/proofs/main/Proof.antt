@@ -1,9 +1,9 @@
 -- `typed::main` lends the part of the text that was read, and the part of its buffer that the file fills.
 use mathlib.Core.Path.{_≡_, sym}
 use native.Mathlib.Omega.{arith}
-use borrow.Author.Needs.{needs}
 use lib.ListN.{length}
 use lib.Seq.{length-take-le}
+use borrow.Author.Needs.{needs}
 use Rattle.typed.proofs.main.Statement.{statement}
 use Rattle.typed.proofs.main.Tie as tie
 
@@ -24,6 +24,12 @@ slice-aggregate-run-file-2 c = search needs
 
 run-file-requires : tie.Need-run-file-requires
 run-file-requires c κs = search needs
+
+array-share-prefix-text-2 : tie.Need-array-share-prefix-text-2
+array-share-prefix-text-2 c = search needs
+
+slice-aggregate-tell : tie.Need-slice-aggregate-tell
+slice-aggregate-tell c = search needs
 
 tell-requires : tie.Need-tell-requires
 tell-requires c κs = search needs
@@ -59,6 +65,8 @@ main-spec =
     slice-aggregate-run-file
     slice-aggregate-run-file-2
     run-file-requires
+    array-share-prefix-text-2
+    slice-aggregate-tell
     tell-requires
     returns
     array-share-prefix-out
