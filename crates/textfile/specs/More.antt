@@ -67,6 +67,7 @@ pub record TwoApart (s : List ℕ) (l : ℕ) : Type 0 where
   pub u : Reading
   pub v : Reading
   pub told : body-detail s ≡ Apart high low
+  pub counted : (1 ≤ high) × (1 ≤ low)
   pub named : nth-said (heard s) l ≡ Item (Point point x)
   pub high-is : nth-said (heard s) high ≡ Item (Value stroke higher point u)
   pub low-is : nth-said (heard s) low ≡ Item (Value stroke lower point v)
