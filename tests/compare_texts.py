@@ -170,7 +170,7 @@ def round_trips(run, made, answers):
     got, wrong = asked(run, back + forth)
     good = [(name, given) for (name, given), (number, _, _) in zip(made.texts, made.heard) if number == 0]
     for (name, given), listing in zip(good, got[len(back):]):
-        if normalised(at_front(listing)) != normalised(given):
+        if normalised(at_front(listing)) != normalised(text.unmarked(given)):
             wrong.append('the listing of what text %s gives has other records than the text' % name)
     return len(back), len(forth), wrong
 
