@@ -1,9 +1,13 @@
 """Holds the script `bench` to docs/bench.1: what it prints, what it says on standard error, its exit status, and what is in the folder afterwards."""
 import os
+import random
 import subprocess
 import tempfile
 
-from second import text
+from braille import CELLS, cells
+from make_files import random_run
+from second import place, text
+from second.runfile import framed, reading_record, travel
 
 ROOT = os.path.dirname(os.path.dirname(os.path.abspath(__file__)))
 # what the gate says that these answers agreed with
@@ -15,6 +19,8 @@ with open(os.path.join(ROOT, 'runs', 'sample.sheet'), 'rb') as file:
 LISTING = text.listing(RUN)
 REFUSED = text.refusal(42, 1, [b'word 2 is missing'])
 BEFORE = {'good.txt': LISTING, 'marked.txt': b'\xef\xbb\xbf' + LISTING, 'twice.run': RUN[:-1] + RUN[3:9] + RUN[-1:], 'bad.txt': b'up\n', 'my run.run': RUN, 'old.run': b'old', '-dash.run': RUN}
+
+COMMANDS = ('bench sheet RUN', 'bench listing RUN', 'bench typed TEXT RUN', 'bench place RUN', 'bench --help')
 
 # Each case: what is tried, the words after `bench`, standard input, the status, what is printed, what is said, and the files that are new or another afterwards.
 CASES = [
@@ -82,12 +88,32 @@ def help_faults():
     faults = []
     if (asked.returncode, late.returncode, none.returncode) != (0, 0, 2) or not asked.stdout == late.stdout == none.stderr or asked.stderr or none.stdout:
         faults.append('bench --help, bench sheet --help and bench alone do not say the same with status 0, 0 and 2')
-    if any(len(line) > 40 for line in asked.stdout.splitlines()) or b'bench typed TEXT RUN' not in asked.stdout:
-        faults.append('bench --help has a line of more than forty cells, or names not every command')
+    lines = asked.stdout.decode('ascii').splitlines()
+    faults += ['bench --help: %r has %d cells' % (line, cells(line)) for line in lines if cells(line) > CELLS]
+    faults += ['bench --help does not name %s' % command for command in COMMANDS if command not in lines]
     return faults
+
+
+def twice(first, second):
+    """A run file of 11 points and 10 cycles whose records of these numbers, counted from 1, are both the reading of the down stroke at point 9 in cycle 4."""
+    run = random_run(random.Random(9), 11, 10)
+    same = reading_record(1, 4, 9, run.y[1, 4, 9])
+    middle = [record for record in travel(run) if record != same]
+    for number in (first, second):
+        middle.insert(number - 2, same)
+    return framed(11, 10, middle)
+
+
+def page_faults():
+    """What README.md and the manual page show of `place` is what is told of such a file."""
+    told = place.told(twice(54, 109)).decode('ascii')
+    for name, block in (('README.md', ''.join('    %s\n' % line for line in told.splitlines())), (os.path.join('docs', 'bench.1'), '.nf\n%s.fi\n' % told)):
+        with open(os.path.join(ROOT, name), encoding='utf-8') as file:
+            if block not in file.read():
+                yield '%s does not show what is told of its example: %r' % (name, told)
 
 
 def compare(run):
     del run  # the script itself is called here, with file names
-    wrong = [fault for case in CASES for fault in case_faults(*case)] + help_faults()
-    return len(CASES) + 3, wrong, []
+    wrong = [fault for case in CASES for fault in case_faults(*case)] + help_faults() + list(page_faults())
+    return len(CASES) + 5, wrong, []

@@ -1,4 +1,4 @@
-"""Holds what the programs `texts`, `typed`, `listing` and `place` make of texts and of run files to what second/text.py and second/place.py say, byte for byte, and both to the page, docs/TEXT.md."""
+"""Holds what the programs `texts`, `typed`, `listing` and `place` make of texts and of run files to what second/text.py and second/place.py say, byte for byte, and the texts to the page, docs/TEXT.md."""
 import os
 import re
 
@@ -78,7 +78,7 @@ class Material:
             yield typed_case(name, given, room, heard)
 
     def place_cases(self):
-        """Every file that is refused, and every tenth of the others, with a buffer that holds what is due, one byte less, or more."""
+        """Every file that is refused, and of every tenth file also one that is accepted, with a buffer that holds what is due, one byte less, or more."""
         for which, (name, data) in enumerate([*self.files, *(('of number %d' % k, data) for k, data in enumerate(make_files.files()))]):
             if len(data) <= 4096 and (answer(data)[0] or which % 10 == 0):
                 yield place_case('file ' + name, data, max(0, len(place.told(data)) + which % 4 - 1))

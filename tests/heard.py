@@ -1,5 +1,5 @@
 """`make heard`: speaks and brailles for real what the programs print, with espeak-ng and liblouis (Debian's packages espeak-ng and liblouis-bin). It is no part of the test command, which needs neither.
-Each line of every sheet and listing of the folder runs, of a listing with the longest lines there are, and of every refusal is
+Each line of every sheet and listing of the folder runs, of a listing with the longest lines there are, of every refusal, of what more is told of it and of every form of a record that a place means is
 - spoken: the sounds of the line are those of the same line with its signs written as words, so that no sign is lost;
 - brailled, uncontracted (UEB): translated back it is the same line, it has as many cells as tests/braille.py says, and at most forty where the figures allow, which is everywhere but in a sheet's lines of long fractions.
 Each line of every work sheet is brailled in the same way."""
@@ -20,7 +20,7 @@ from worked_runs import names, part  # noqa: E402
 
 TABLES = 'unicode.dis,en-ueb-g1.ctb'
 # what more is told of a refusal, and what a record is told as, with the longest numbers that there are
-MORE = [b'word 7 is not understood', b'word 7 is missing', b'line 65535 told it first', b'point 10 is missing', b'down point 10 cycle 9 is missing', b'lines 65536 and 65535 lie apart']
+MORE = [b'word 8 is not understood', b'word 7 is missing', b'line 65535 told it first', b'point 10 is missing', b'down point 10 cycle 9 is missing', b'lines 65536 and 65535 lie apart']
 RECORDS = ['points 255 cycles 255', 'point 255', 'up point 255 cycle 255', 'down point 255 cycle 255', 'stroke 255', 'close', 'kind 255', 'cut short', 'not there', 'behind the close']
 
 
@@ -107,7 +107,7 @@ def sources():
         sys.exit('heard: the listing with the longest lines has none of 36 characters')
     yield 'listing with the longest lines', longest, True
     yield 'refusals of a text', [line for n in range(41, 51) for line in text.refusal(n, 65536, MORE).decode('ascii').splitlines()], True
-    yield 'refusals of a run file', ['refused %d at 1836' % n for n in range(1, 11)], True
+    yield 'refusals of a run file', ['refused %d at %d' % (n, 1830 if n < 9 else 10) for n in range(1, 11)], True
     yield 'records that a place means', ['record 233: ' + what for what in RECORDS] + ['record 232 told it first', 'records 233 and 232 lie apart', 'nothing is refused'], True
     yield 'refusals of an index', ['%s refused %d' % (name, n) for name in NAMES + ('line',) for n in (11, 12, 13, 15)], True
 

@@ -54,6 +54,7 @@ def limits():
             yield file_of(with_reading(level, (i % 2, i % 3, i), gap))
     yield file_of(with_reading(with_reading(level, (0, 0, 3), SCATTER + 1), (1, 1, 1), -SCATTER - 1))
     yield file_of(with_point(with_reading(level, (0, 0, 0), SCATTER + 1), 3, base.x[2]))
+    yield file_of(with_reading(with_reading(level, (1, 0, 2), SCATTER + 1), (0, 1, 2), -SCATTER - 1))
 
 
 def outsides(run):

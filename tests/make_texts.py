@@ -90,6 +90,7 @@ def named(make):
     yield 'a byte-order mark alone', MARK
     yield 'sample without the down stroke of its second cycle', joined(lines[:-3])
     yield 'sample with both strokes apart at the last point', joined([opening] + points + readings[:2] + [b'up point 2 cycle 0 reads -9001'] + readings[3:-1] + [b'down point 2 cycle 1 reads 12005'])
+    yield 'three cycles that lie apart', joined(record_lines(with_reading(with_reading(with_reading(level_run(3, 3), (0, 0, 1), 10001), (0, 1, 1), -1), (0, 2, 1), 20002)))
     yield 'points alone but for one', joined([opening] + points[1:])
     yield 'sample with a line that ends too early', joined(lines[:5] + [b'up point 1 cycle'] + lines[6:])
 

@@ -4,7 +4,7 @@ from functools import cached_property
 
 from make_texts import MARK
 from second.runfile import Run, all_places
-from second.text import FORMS, LONGEST, RECORDS, Text, apart_pair, heard, more_told, patterns
+from second.text import FORMS, LENGTH, LONGEST, RECORDS, Text, apart_pair, heard, more_told, patterns
 
 
 class PairedByPlace(Text):
@@ -136,11 +136,10 @@ class EveryMark(Text):
 class MarkCounts(Text):
     def length_faults(self):
         """The mark is counted for the length."""
-        whole = self.whole if hasattr(self, 'whole') else self.text
-        return [fault for fault in [(0, whole[:LONGEST].count(b'\n') + 1, 0, 48)] if len(whole) > LONGEST]
+        return [(LENGTH, self.given[:LONGEST].count(b'\n') + 1, 0, 48)] if len(self.given) > LONGEST else []
 
     def __init__(self, text):
-        self.whole = text
+        self.given = text
         Text.__init__(self, text)
 
 
@@ -168,6 +167,14 @@ class DownFirst(Text):
         turned = Run(self.run.m, self.run.n, self.run.x, {(1 - s, c, j): y for (s, c, j), y in self.run.y.items()})
         s, high, low = apart_pair(turned, i)
         return 1 - s, high, low
+
+
+class FurthestApart(Text):
+    def pair(self, i):
+        """The highest and the lowest reading of the stroke that lies apart."""
+        s, _, _ = super().pair(i)
+        cycles = sorted(range(self.run.n), key=lambda c: self.run.y[s, c, i])
+        return s, cycles[-1], cycles[0]
 
 
 class WordsFromZero(Text):
@@ -210,6 +217,7 @@ WRONG = [
     ('telling a missing reading before a missing point', ReadingsFirst, 'points alone but for one'),
     ('telling the lower of two lines first', LowerFirst, 'sample with scatter at the last point'),
     ('telling of the down stroke first', DownFirst, 'sample with both strokes apart at the last point'),
+    ('telling the two that lie furthest apart', FurthestApart, 'three cycles that lie apart'),
     ('counting words from 0', WordsFromZero, 'sample with a line that ends too early'),
     ('taking a word that is missing for one that is there', EveryWordIsThere, 'sample with a line that ends too early'),
 ]

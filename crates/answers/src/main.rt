@@ -6,7 +6,7 @@
 // 1 and a run: what writing it into the buffer gives.
 // 2 and a file: its sheet in the buffer.
 // 3 and a run: its averages and its indices; the buffer's length counts for nothing.
-// 4 and a file: the reader's answer up to the close, and where that ends; the buffer's length counts for nothing.
+// 4 and a file: the reader's answer up to the close, and where that ends; a buffer is lent and left alone.
 mod files;
 mod runs;
 

@@ -2,7 +2,7 @@
 use libc::STDIN_FILENO;
 use libc::STDOUT_FILENO;
 
-// No answer depends on more than the first 1,837 bytes of a file, and no line has more than forty bytes but for numbers of more than five digits.
+// Number and place of a file depend on its first 1,837 bytes alone, and what is told has at most 831 bytes.
 fn main() {
     let mut file = [0u8; 1837];
     let n = io::read_full(STDIN_FILENO, &mut file);

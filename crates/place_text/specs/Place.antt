@@ -4,8 +4,8 @@ use mathlib.Core.List.{List, [], _∷_, _++_}
 use Prim.Native.Nat.{ℕ, suc}
 use lib.Dec.{ltb, leb, eqb}
 use lib.ListN.{length, getD}
-use Rattle.run.specs.Places.{Place, input-at, reading-at, places}
-use Rattle.records.specs.Record.{Sizes, Record, opening, entry, close, unknown, cut, surplus, Labelled, at-label, Recorded, its, unlabelled, sizes-of, entries-of}
+use Rattle.run.specs.Places.{Place, input-at, reading-at}
+use Rattle.records.specs.Record.{Record, opening, entry, close, unknown, cut, surplus, Labelled, at-label, its}
 use Rattle.records.specs.Meaning.{run-of}
 use Rattle.format.specs.Format.{up-to-close}
 use Rattle.format.specs.Found.{Standing, stands, ends, strange, standing-at}
@@ -14,7 +14,8 @@ use Rattle.reader.specs.Meaning.{meaning}
 use Rattle.plain.specs.Plain.{refused-line}
 use Rattle.plain.specs.Digits.{decimal}
 use Rattle.spoken.specs.Said.{points-word, cycles-word, point-word, cycle-word, stroke-word, spaced}
-use Rattle.detail.specs.Detail.{label-at, told-where, first-lacking, lacking, apart-at}
+use Rattle.detail.specs.Detail.{label-at, told-where, apart-at}
+pub use Rattle.detail.specs.Detail.{lacks}
 use Rattle.detail.specs.declared.Detail.{Detail}
 use Rattle.detail.specs.declared.Detail.the-variants.{Nothing, Earlier}
 use Rattle.sentences.specs.Sentences.{record-name, not-name, detail-line}
@@ -98,7 +99,7 @@ told-of s k p =
     (cond (eqb k 8) (record-line (suc (length (passed-over s p))) (behind-name ∷ the-name ∷ close-name ∷ []))
     (record-line (suc (length (passed-over s p))) (words-at s p)))
 
--- 6: the record that told it first
+-- 6: the record that told it first; 7: the first place that is missing; 10: the two readings that lie apart
 abbrev pub first-told : List Labelled → Standing → Detail
 first-told xs (stands (opening z) end) = Nothing
 first-told xs (stands (entry e) end) = Earlier (told-where (e .place) xs)
@@ -108,10 +109,6 @@ first-told xs (stands cut end) = Nothing
 first-told xs (stands surplus end) = Nothing
 first-told xs ends = Nothing
 first-told xs strange = Nothing
-
--- 7: the first place of the run, in travel order, that no record gives
-abbrev pub lacks : Recorded → Detail
-lacks t = let z = sizes-of (its t) in lacking (first-lacking (places (z .m) (z .n)) (entries-of (its t)))
 
 abbrev pub detail-of : List ℕ → (number place : ℕ) → Detail
 detail-of s k p =

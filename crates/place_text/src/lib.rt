@@ -43,7 +43,7 @@ fn is_close(r: Record) -> bool
     }
 }
 
-// Where the walk over the records is: the number of the record at `at`; `more` is 1 while there is one to look at.
+// Where the walk over the records is: the number behind the last record that was counted, and where the next one stands; `more` is 1 while there is one to look at.
 struct Step {
     more: usize,
     k: usize,

@@ -1,4 +1,4 @@
-// How the refusal of a typed text is told.
+// How the refusal of a typed text is told, and what more is told of any refusal.
 ghost use mathlib.Core.List.{_∷_, _++_};
 ghost use mathlib.Core.Path.{_≡_};
 ghost use lib.ListN.{length};
