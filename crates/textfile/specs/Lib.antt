@@ -6,4 +6,5 @@ pub mod Back
 pub mod Witness
 pub mod Written
 pub mod More
+pub mod OddFits
 pub mod MoreLaws

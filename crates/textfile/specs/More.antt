@@ -29,10 +29,12 @@ use Rattle.text_detail.specs.TextDetail.{nth-line, nth-said, body-detail}
 abbrev pub Refused : (s : List ℕ) → (number l : ℕ) → Type 0
 Refused s number l = given (text-refusals s) ≡ given-at number l
 
--- 42: the word told is a word of the line or the first one that it lacks; and no line with the same words up to it, and with that word, says anything
+-- 42: the word told is a word of the line, or the line ends before it; the words in front of it fit, since some line that begins with them says a record or nothing; and no line that has that word too, behind the same words, does
 pub record OddWord (s : List ℕ) (l : ℕ) : Type 0 where
   pub told : let ws = words (nth-line s l) in
       ((odd-word ws < length ws) × (body-detail s ≡ Word (suc (odd-word ws)))) ⊎ ((odd-word ws ≡ length ws) × (body-detail s ≡ NoWord (suc (odd-word ws))))
+  pub fits : let ws = words (nth-line s l) in
+      (vs : List (List ℕ)) × ((j : ℕ) → j < odd-word ws → nth vs j ≡ nth ws j) × (odd-word ws ≤ length vs) × ¬ (said vs ≡ Unclear)
   pub why : (vs : List (List ℕ)) → let ws = words (nth-line s l) in odd-word ws < length vs → ((j : ℕ) → j ≤ odd-word ws → nth vs j ≡ nth ws j) → said vs ≡ Unclear
 
 -- 46: two lines open, or they give the same place
@@ -41,13 +43,14 @@ pub data Alike : Said → Said → Type 0 where
   same-input : {i : ℕ} {x z : Input} → Alike (Item (Point i x)) (Item (Point i z))
   same-reading : {t c i : ℕ} {y z : Reading} → Alike (Item (Value t c i y)) (Item (Value t c i z))
 
--- the line told is an earlier one that is alike
+-- the line told is an earlier one that is alike, and none before it is
 pub record ToldFirst (s : List ℕ) (l : ℕ) : Type 0 where
   pub first : ℕ
   pub told : body-detail s ≡ Earlier first
   pub counted : 1 ≤ first
   pub earlier : first < l
   pub alike : Alike (nth-said (heard s) first) (nth-said (heard s) l)
+  pub none-before : (k : ℕ) → 1 ≤ k → k < first → ¬ (Alike (nth-said (heard s) k) (nth-said (heard s) l))
 
 -- 47: the place told is one of the run that no line gives, and each one before it in travel order some line gives
 pub record FirstMissing (s : List ℕ) : Type 0 where

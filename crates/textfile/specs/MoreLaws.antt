@@ -22,7 +22,7 @@ use Rattle.table.specs.Table.{Row, Given, given-at, accepted, First, told-or, g
 use Rattle.table.specs.Laws.{exists}
 use Rattle.run.specs.Run.{reading}
 use Rattle.run.specs.Places.{Place, input-at, reading-at, same, within, places}
-use Rattle.run.specs.PlaceLaws.{same-equal}
+use Rattle.run.specs.PlaceLaws.{same-self, same-equal}
 use Rattle.run.specs.Limits.{stroke-calm}
 use Rattle.run.specs.Checks.{nine, ten}
 use Rattle.run.specs.declared.Run.{Run}
@@ -41,13 +41,14 @@ use Rattle.detail.specs.Detail.{stands-at, label-at, told-where, lacking, above
 use Rattle.detail.specs.Marks.{entries}
 use Rattle.detail.specs.DetailLaws.{Again, Unfilled, LieApart, stroke-apart, six-again, seven-lacks, lacking-gap, ten-scattered, closed-there, far-apart}
 use Rattle.detail.specs.declared.Detail.the-variants.{Word, NoWord, Earlier}
-use Rattle.text.specs.Text.{heard, some-opens, opening-at, entry-at, gathered, text, line-rows, gives-point, point-line, line-refusals}
+use Rattle.text.specs.Text.{heard, opens, some-opens, opening-at, entry-at, gathered, text, line-rows, gives-point, point-line, line-refusals}
 use Rattle.typed_text.specs.Method.{first-label}
 use Rattle.typed_text.specs.TableLaws.{retell, told-lines, told-unopened, told-records, lines-silent, opens-once}
 use Rattle.text_detail.specs.TextDetail.{nth-line, nth-said, odd, opening-line, told-before, lies-apart, detail-at, body-detail}
 use Rattle.text_detail.specs.LineLaws.{said-at}
 use Rattle.text_detail.specs.NumberLaws.{told-line, told-records-of}
 use Rattle.textfile.specs.More.{Refused, OddWord, Alike, both-open, same-input, same-reading, ToldFirst, FirstMissing, TwoApart, MoreTold}
+use Rattle.textfile.specs.OddFits.{odd-fits}
 
 -- ---- which rows tell it
 -- line by line, or of the records of a text of which one line opens and no second
@@ -332,6 +333,81 @@ in-front (y ∷ before) it after x d e r m q u = go (List·Memᴰ·cases-cons m)
         omega arith
     go (inr n) later = later n
 
+-- ---- the first line of a kind
+-- f tells the number of the first line that passes a test: no line that passes it has a lower one
+first-of : (f : ℕ → List Said → ℕ) (t : Said → Bool) → ((k : ℕ) (h : Said) (hs : List Said) → f k (h ∷ hs) ≡ cond (t h) k (f (suc k) hs)) → t Nothing ≡ false
+    → (k : ℕ) (hs : List Said) (j : ℕ) → t (getD hs j Nothing) ≡ true → f k hs ≤ k + j
+first-of f t step void k [] j e = absurd (apart (sym e ∙ void))
+first-of f t step void k (h ∷ hs) j e = rw (step k h hs) (go (t h) refl j e (first-of f t step void (suc k) hs))
+  where
+    go : (b : Bool) → t h ≡ b → (j : ℕ) → t (getD (h ∷ hs) j Nothing) ≡ true → ((i : ℕ) → t (getD hs i Nothing) ≡ true → f (suc k) hs ≤ suc k + i) → cond b k (f (suc k) hs) ≤ k + j
+    go true w j q later = omega arith
+    go false w zero q later = absurd (apart (sym q ∙ w))
+    go false w (suc i) q later = omega (arith, later i q)
+
+-- the first that opens
+opening-step : (k : ℕ) (h : Said) (hs : List Said) → first-label (gathered opening-at k (h ∷ hs)) ≡ cond (opens h) k (first-label (gathered opening-at (suc k) hs))
+unfolding gathered
+opening-step k Nothing hs = refl
+opening-step k (Item (Opening m n)) hs = refl
+opening-step k (Item (Point i x)) hs = refl
+opening-step k (Item (Value s c i y)) hs = refl
+opening-step k (Item Close) hs = refl
+opening-step k Unclear hs = refl
+
+first-opens : (hs : List Said) (j : ℕ) → opens (getD hs j Nothing) ≡ true → opening-line hs ≤ 1 + j
+first-opens hs j e = first-of (λ k gs. first-label (gathered opening-at k gs)) opens opening-step refl 1 hs j e
+
+-- the first that gives a place
+module _ (p : Place) where
+  abbrev giving : Said → Bool
+  giving Nothing = false
+  giving (Item (Opening m n)) = false
+  giving (Item (Point i x)) = same p (input-at i)
+  giving (Item (Value s c i y)) = same p (reading-at s c i)
+  giving (Item Close) = false
+  giving Unclear = false
+
+  entry-step : (end k : ℕ) (h : Said) (hs : List Said) → label-at p (closing end k (h ∷ hs)) ≡ cond (giving h) k (label-at p (closing end (suc k) hs))
+  unfolding gathered label-at
+  entry-step end k Nothing hs = refl
+  entry-step end k (Item (Opening m n)) hs = refl
+  entry-step end k (Item (Point i x)) hs = refl
+  entry-step end k (Item (Value s c i y)) hs = refl
+  entry-step end k (Item Close) hs = refl
+  entry-step end k Unclear hs = refl
+
+  -- no opening in front gives one
+  behind-openings : (k : ℕ) (hs : List Said) (ys : List Labelled) → label-at p (gathered opening-at k hs ++ ys) ≡ label-at p ys
+  unfolding gathered label-at
+  behind-openings k [] ys = refl
+  behind-openings k (Nothing ∷ hs) ys = behind-openings (suc k) hs ys
+  behind-openings k (Item (Opening m n) ∷ hs) ys = behind-openings (suc k) hs ys
+  behind-openings k (Item (Point i x) ∷ hs) ys = behind-openings (suc k) hs ys
+  behind-openings k (Item (Value s c i y) ∷ hs) ys = behind-openings (suc k) hs ys
+  behind-openings k (Item Close ∷ hs) ys = behind-openings (suc k) hs ys
+  behind-openings k (Unclear ∷ hs) ys = behind-openings (suc k) hs ys
+
+  first-giving : (hs : List Said) (j : ℕ) → giving (getD hs j Nothing) ≡ true → label-at p (text hs .records) ≤ 1 + j
+  first-giving hs j e =
+      let end = length hs in
+      rw (behind-openings 1 hs (closing end 1 hs)) (first-of (λ k gs. label-at p (closing end k gs)) giving (entry-step end) refl 1 hs j e)
+
+gives-giving : (h : Said) (p : Place) (v : ℤ) → Gives h p v → giving p h ≡ true
+gives-giving h (input-at i) v g = ap (giving (input-at i)) (g .1 .0) ∙ same-self (input-at i)
+gives-giving h (reading-at s c i) v g = ap (giving (reading-at s c i)) (g .1 .0) ∙ same-self (reading-at s c i)
+
+-- of two lines that are alike both are of the kind, or neither
+alike-opens : {h g : Said} → Alike h g → opens h ≡ opens g
+alike-opens both-open = refl
+alike-opens same-input = refl
+alike-opens same-reading = refl
+
+alike-giving : (p : Place) {h g : Said} → Alike h g → giving p h ≡ giving p g
+alike-giving p both-open = refl
+alike-giving p same-input = refl
+alike-giving p same-reading = refl
+
 -- ---- 46
 -- a place of a run is one of the largest
 within-most : (m n : ℕ) → m ≤ 11 → n ≤ 10 → (p : Place) → T (within m n p) → within 11 10 p ≡ true
@@ -373,6 +449,7 @@ module _ (s : List ℕ) (l : ℕ) (e : Refused s 46 l) where
         counted = line-counted (t .first);
         earlier = t .before;
         alike = opens-alike (nth-said hs (opening-line hs)) (nth-said hs l) (line-said (t .first)) second;
+        none-before = λ k low before alike. omega (arith, first-opens hs (k - 1) (alike-opens alike ∙ ap opens (second .1 .1)));
       }
 
   -- a record stands where an earlier one does
@@ -404,6 +481,7 @@ module _ (s : List ℕ) (l : ℕ) (e : Refused s 46 l) where
         counted = line-counted first-line;
         earlier = omega (arith, f .label-is, q, a .label-is);
         alike = gives-alike (nth-said hs (told-where p xs)) (nth-said hs l) p (number-at p (entries (a .before))) (d .number) (line-said first-line) second;
+        none-before = λ k low before alike. omega (arith, q, a .told, first-giving p hs (k - 1) (alike-giving p alike ∙ gives-giving (nth-said hs l) p (d .number) second));
       }
     where
       there : (ys : List Labelled) (y : Labelled) (zs : List Labelled) → List·Memᴰ y (ys ++ (y ∷ zs))
@@ -669,7 +747,7 @@ pub of-42-holds : (s : List ℕ) (l : ℕ) → Refused s 42 l → OddWord s l
 of-42-holds s l e =
     let ws = words (nth-line s l) in
     let u : said ws ≡ Unclear = said-at s (l - 1) ∙ unclear-said s l (told-by (heard s) 42 l (λ q. omega arith) (told-line s 42 l (λ q. omega arith) e)) in
-    record { told = which (decLt (odd-word ws) (length ws)); why = λ vs long alike. said-odd ws vs u long alike }
+    record { told = which (decLt (odd-word ws) (length ws)); fits = odd-fits ws; why = λ vs long alike. said-odd ws vs u long alike }
   where
     is : body-detail s ≡ odd (words (nth-line s l))
     is = ap (detail-at s) e
