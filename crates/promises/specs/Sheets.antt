@@ -9,7 +9,7 @@ use Rattle.exact.specs.declared.Fraction.{Fraction}
 use Rattle.plain.specs.Plain.{refused-line}
 use Rattle.run.specs.Places.{rising}
 use Rattle.run.specs.Checks.{verdict}
-use Rattle.run.specs.Table.{length-table, table-at}
+use Rattle.run.specs.WrittenOut.{length-table, table-at}
 use Rattle.run.specs.declared.Run.{Run}
 use Rattle.reader.specs.Meaning.{meaning}
 use Rattle.averages.specs.Averages.{sum, unit, MeanAt, Means, AveragesDue, no-run, told}

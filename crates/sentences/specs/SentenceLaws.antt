@@ -13,7 +13,7 @@ use Rattle.plain.specs.Most.{Most, word, after, joined, decimal-most}
 use Rattle.spoken.specs.Said.{point-word, cycle-word, down-word, stroke-word, reading-place, spaced}
 use Rattle.detail.specs.declared.Detail.{Detail}
 use Rattle.detail.specs.declared.Detail.the-variants.{Nothing, Word, NoWord, Earlier, Input, Reading, Apart}
-use Rattle.sentences.specs.Sentences.{line-word, sentence, line-name, word-name, is-name, missing-name, and-name, lie-name, apart-name, detail-line, refusal}
+use Rattle.sentences.specs.Sentences.{line-between, sentence, line-name, word-name, is-name, missing-name, and-name, lie-name, apart-name, detail-line, refusal}
 
 -- other numbers have none
 pub sentence-none : (number : ℕ) → ((number ≡ 41 → ⊥) × (number ≡ 42 → ⊥) × (number ≡ 43 → ⊥) × (number ≡ 44 → ⊥) × (number ≡ 45 → ⊥))
@@ -102,7 +102,7 @@ module _ (noun : List ℕ) where
 
 refusal-most : (number line : ℕ) (d : Detail) → Most (refusal number line d) 168
 refusal-most number line d =
-    joined (word refused-word) (joined (decimal-most number) (joined (word line-word) (joined (decimal-most line) (after line-feed (joined (sentence-most number) (record { most = detail-most line-name d }))))))
+    joined (word refused-word) (joined (decimal-most number) (joined (word line-between) (joined (decimal-most line) (after line-feed (joined (sentence-most number) (record { most = detail-most line-name d }))))))
 
 -- an array of 831 bytes has room for it
 pub refusal-fits : (number line : ℕ) (d : Detail) → length (refusal number line d) ≤ longest

@@ -10,8 +10,8 @@ use Rattle.detail.specs.declared.Detail.{Detail}
 use Rattle.detail.specs.declared.Detail.the-variants.{Nothing, Word, NoWord, Earlier, Input, Reading, Apart}
 
 -- " line "
-abbrev pub line-word : List ℕ
-line-word = 32 ∷ 108 ∷ 105 ∷ 110 ∷ 101 ∷ 32 ∷ []
+abbrev pub line-between : List ℕ
+line-between = 32 ∷ 108 ∷ 105 ∷ 110 ∷ 101 ∷ 32 ∷ []
 
 -- "no line tells points and cycles"
 abbrev pub sentence-41 : List ℕ
@@ -129,4 +129,4 @@ detail-line noun d = line-if (detail-words noun d)
 
 -- the two lines, and one more where more is told
 abbrev pub refusal : (number line : ℕ) → Detail → List ℕ
-refusal number line d = refused-word ++ (decimal number ++ (line-word ++ (decimal line ++ (line-feed ∷ (sentence number ++ detail-line line-name d)))))
+refusal number line d = refused-word ++ (decimal number ++ (line-between ++ (decimal line ++ (line-feed ∷ (sentence number ++ detail-line line-name d)))))
