@@ -12,7 +12,8 @@ use Rattle.whole.specs.Size.{size-add, size-sub}
 use Rattle.run.specs.Run.{input}
 use Rattle.run.specs.Checked.{Checked}
 use Rattle.run.specs.declared.Run.{Run}
-use Rattle.groups.specs.Sums.{up-sum, down-sum, limit}
+use Rattle.groups.specs.Sums.{up-sum, down-sum}
+use Rattle.groups.specs.Search.{limit}
 use Rattle.groups.specs.Limit.{total-size, limit-most}
 use Rattle.band.specs.Line.{Points, Proper}
 use Rattle.band.specs.Band.{most-v, Admitted}

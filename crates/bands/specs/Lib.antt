@@ -3,4 +3,5 @@ pub mod Parts
 pub mod BandLaws
 pub mod Lent
 pub mod Transfer
+pub mod Limited
 pub mod Admitted

@@ -2,7 +2,7 @@
 use mathlib.Core.Path.{_≡_}
 use Prim.Native.Nat.{ℕ, _<_}
 use Rattle.run.specs.declared.Run.{Run}
-use Rattle.groups.specs.Sums.{limit}
+use Rattle.groups.specs.Search.{limit}
 use Rattle.band.specs.Line.{Points}
 use Rattle.bands.specs.Through.{means, strokes, limit-points, swing, scatter}
 use Rattle.bands.specs.declared.Width.{Width}

@@ -1,6 +1,8 @@
 -- The answer that is due for an index of a run (the paper, "What can be answered" and "The formulas in whole numbers"; request C-11). Definitions only.
 use mathlib.Core.Path.{_≡_}
 use mathlib.Core.Bool.{Bool, true, false}
+use mathlib.Core.Logic.{_⊎_}
+use mathlib.Core.List.{List, [], _∷_, _++_}
 use Prim.Native.Nat.{ℕ, _*_, _-_, _<_}
 use lib.Dec.{T}
 use lib.IntN.{pos, natAbs, _-ℤ_}
@@ -8,10 +10,11 @@ use lib.Signed.{_<ℤ_}
 use Rattle.exact.specs.Value.{Made, nought}
 use Rattle.exact.specs.Rounding.{Nearest}
 use Rattle.exact.specs.declared.Fraction.{Fraction}
+use Rattle.table.specs.Table.{Condition, conditions, FirstOf, given-at}
 use Rattle.run.specs.Run.{input}
-use Rattle.run.specs.Checks.{verdict}
+use Rattle.run.specs.Checks.{checks}
 use Rattle.run.specs.declared.Run.{Run}
-use Rattle.groups.specs.Sums.{limit}
+use Rattle.groups.specs.Cut.{WithLimits}
 use Rattle.band.specs.Line.{Line, Points, Within, Largest, All, Parallel, Zero, Front, Least, Single, Several, Terminal}
 use Rattle.bands.specs.Through.{means, strokes, limit-points, LargestOf, swing, scatter}
 use Rattle.due.specs.declared.Answer.{Answer}
@@ -32,17 +35,23 @@ pub record Independent (r : Run) (L : Line) : Type 0 where
   pub z : ℕ
   pub best : Best All (means r) L w z
 
+-- L is the best line of the terminal line's slope
+pub record Shifted (P : Points) (L : Line) (w z : ℕ) : Type 0 where
+  pub base : Line
+  pub terminal : Terminal P base
+  pub best : Best (Parallel base) P L w z
+
 -- an index's line L and its width w/z. Hysteresis and repeatability have the independent line (4.3 note 1)
 abbrev pub Fits : Index → Run → Line → (w z : ℕ) → Type 0
 Fits index.Terminal r L w z = Terminal (means r) L × Largest (means r) L w z
-Fits index.Shifted r L w z = (T : Line) → Terminal (means r) T → Best (Parallel T) (means r) L w z
+Fits index.Shifted r L w z = Shifted (means r) L w z
 Fits index.Independent r L w z = Best All (means r) L w z
 Fits index.Zero r L w z = Best (Zero (means r)) (means r) L w z
 Fits index.Front r L w z = Best (Front (means r)) (means r) L w z
 Fits index.Hysteresis r L w z = Independent r L × LargestOf (r .m) (swing r) w × (z ≡ r .n)
-Fits index.Repeatability r L w z = Independent r L × LargestOf (r .m) (scatter (limit r)) w × (z ≡ r .n)
+Fits index.Repeatability r L w z = Independent r L × WithLimits r (λ k. LargestOf (r .m) (scatter k) w) × (z ≡ r .n)
 Fits index.Lh r L w z = Best All (strokes r) L w z
-Fits index.Lhr r L w z = Best All (limit-points r (limit r)) L w z
+Fits index.Lhr r L w z = WithLimits r (λ k. Best All (limit-points r k) L w z)
 
 -- several lines of the family F reach its least width w/z
 pub record Many (F : Line → Type 0) (P : Points) (w z : ℕ) : Type 0 where
@@ -59,32 +68,9 @@ SeveralFit index.Front r w z = ⊥
 SeveralFit index.Hysteresis r w z = ⊥
 SeveralFit index.Repeatability r w z = ⊥
 SeveralFit index.Lh r w z = Many All (strokes r) w z
-SeveralFit index.Lhr r w z = Many All (limit-points r (limit r)) w z
+SeveralFit index.Lhr r w z = WithLimits r (λ k. Many All (limit-points r k) w z)
 
--- ---- answers
--- under every refusal for which nothing else stands all fractions are 0/1 and the thousandths 0
-abbrev pub refused : (number place : ℕ) → Answer
-refused number place = record { number = number; place = place; width = nought; slope = nought; offset = nought; index = nought; thousandths = 0 }
-
--- under 12 only the width stands
-abbrev pub only-width : Fraction → Answer
-only-width f = record { number = 12; place = 0; width = f; slope = nought; offset = nought; index = nought; thousandths = 0 }
-
--- last x minus first x
-abbrev pub span : Run → ℕ
-span r = natAbs (input r (r .m - 1) -ℤ input r 0)
-
--- the answer with the line L and the width w/z. The index is the width over the full-span output, absolute slope times span; where the slope is zero it is 0/1, under 11
-pub record Stands (r : Run) (L : Line) (w z : ℕ) (a : Answer) : Type 0 where
-  pub flat : L .a ≡ pos 0 → a .number ≡ 11
-  pub sloping : (L .a ≡ pos 0 → ⊥) → a .number ≡ 0
-  pub place : a .place ≡ 0
-  pub width : Made (pos w) z (a .width)
-  pub slope : Made (L .a) (L .q) (a .slope)
-  pub offset : Made (L .b) (L .q) (a .offset)
-  pub index : Made (pos (w * L .q)) (z * (natAbs (L .a) * span r)) (a .index)
-  pub thousandths : Nearest (100000 * natAbs (a .index .num)) (a .index .den) (a .thousandths)
-
+-- ---- when an index is refused
 -- 15 (request C-11): zero-based linearity is asked for, and an input is negative
 abbrev pub from-zero : Index → Bool
 from-zero index.Terminal = false
@@ -118,14 +104,75 @@ scatters index.Lhr = true
 abbrev pub OneCycle : Index → Run → Type 0
 OneCycle which r = T (scatters which) × (r .n ≡ 1)
 
--- 12, then 11, of a run that is otherwise answered
-pub data Given (which : Index) (r : Run) (a : Answer) : Type 0 where
-  several : (w z : ℕ) → 0 < z → SeveralFit which r w z → Made (pos w) z (a .width) → a ≡ only-width (a .width) → Given which r a
-  one-line : (L : Line) → (w z : ℕ) → 0 < z → Fits which r L w z → Stands r L w z a → Given which r a
+-- 12: more than one line has the least largest deviation w/z
+pub record SeveralReach (which : Index) (r : Run) : Type 0 where
+  pub w : ℕ
+  pub z : ℕ
+  pub some : 0 < z
+  pub fit : SeveralFit which r w z
 
--- the checks of the run, then 15, then 13, then 12, then 11
-pub data Due (which : Index) (r : Run) (a : Answer) : Type 0 where
-  no-run : (verdict r .number ≡ 0 → ⊥) → a ≡ refused (verdict r .number) (verdict r .place) → Due which r a
-  below-zero : verdict r .number ≡ 0 → BelowZero which r → a ≡ refused 15 0 → Due which r a
-  one-cycle : verdict r .number ≡ 0 → (BelowZero which r → ⊥) → OneCycle which r → a ≡ refused 13 0 → Due which r a
-  given : verdict r .number ≡ 0 → (BelowZero which r → ⊥) → (OneCycle which r → ⊥) → Given which r a → Due which r a
+-- 11: the line of the index has slope zero
+pub record LevelLine (which : Index) (r : Run) : Type 0 where
+  pub line : Line
+  pub w : ℕ
+  pub z : ℕ
+  pub some : 0 < z
+  pub fits : Fits which r line w z
+  pub level : line .a ≡ pos 0
+
+-- told of place 0
+abbrev pub at-zero : (number : ℕ) → Type 0 → Condition
+at-zero k P = record { number = k; Told = λ p. (p ≡ 0) × P }
+
+-- 15, then 13, then 12, then 11
+abbrev pub own : Index → Run → List Condition
+own which r = at-zero 15 (BelowZero which r) ∷ at-zero 13 (OneCycle which r) ∷ at-zero 12 (SeveralReach which r) ∷ at-zero 11 (LevelLine which r) ∷ []
+
+-- behind the checks of the run
+abbrev pub refusals : Index → Run → List Condition
+refusals which r = conditions (checks r) ++ own which r
+
+-- ---- what stands beside the number
+-- last x minus first x
+abbrev pub span : Run → ℕ
+span r = natAbs (input r (r .m - 1) -ℤ input r 0)
+
+-- the line L and the width w/z, in lowest terms. The index is the width over the full-span output, absolute slope times span; where the slope is zero it is 0/1
+pub record Stands (r : Run) (L : Line) (w z : ℕ) (a : Answer) : Type 0 where
+  pub width : Made (pos w) z (a .width)
+  pub slope : Made (L .a) (L .q) (a .slope)
+  pub offset : Made (L .b) (L .q) (a .offset)
+  pub index : Made (pos (w * L .q)) (z * (natAbs (L .a) * span r)) (a .index)
+  pub thousandths : Nearest (100000 * natAbs (a .index .num)) (a .index .den) (a .thousandths)
+
+-- under 0 and under 11: a line of the index and its width
+pub record LineStands (which : Index) (r : Run) (a : Answer) : Type 0 where
+  pub line : Line
+  pub w : ℕ
+  pub z : ℕ
+  pub some : 0 < z
+  pub fits : Fits which r line w z
+  pub stands : Stands r line w z a
+
+-- under 12 only the width
+abbrev pub only-width : Fraction → Answer
+only-width f = record { number = 12; place = 0; width = f; slope = nought; offset = nought; index = nought; thousandths = 0 }
+
+pub record WidthStands (which : Index) (r : Run) (a : Answer) : Type 0 where
+  pub w : ℕ
+  pub z : ℕ
+  pub some : 0 < z
+  pub fit : SeveralFit which r w z
+  pub width : Made (pos w) z (a .width)
+  pub alone : a ≡ only-width (a .width)
+
+-- under every other refusal all fractions are 0/1 and the thousandths 0
+abbrev pub refused : (number place : ℕ) → Answer
+refused number place = record { number = number; place = place; width = nought; slope = nought; offset = nought; index = nought; thousandths = 0 }
+
+-- ---- the answer
+pub record Due (which : Index) (r : Run) (a : Answer) : Type 0 where
+  pub told : FirstOf (refusals which r) (given-at (a .number) (a .place))
+  pub line : (a .number ≡ 0) ⊎ (a .number ≡ 11) → LineStands which r a
+  pub width : a .number ≡ 12 → WidthStands which r a
+  pub nothing : ¬ (a .number ≡ 0) → ¬ (a .number ≡ 11) → ¬ (a .number ≡ 12) → a ≡ refused (a .number) (a .place)

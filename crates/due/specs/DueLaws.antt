@@ -9,10 +9,13 @@ use Rattle.whole.specs.Sign.{weaken, le-or-gt}
 use Rattle.run.specs.Run.{input}
 use Rattle.run.specs.Checked.{Checked}
 use Rattle.run.specs.declared.Run.{Run}
-use Rattle.band.specs.Line.{Line, Points, Same}
-use Rattle.band.specs.Same.{same-within}
+use Rattle.band.specs.Line.{Line, Points, Parallel, Same}
+use Rattle.band.specs.Same.{same-within, same-sym}
+use Rattle.fit.specs.Scaled.{least-family, single-family, parallel-same}
+use Rattle.bands.specs.Parts.{SamePoints}
+use Rattle.bands.specs.Transfer.{within-points, least-points, single-points, several-points}
 use Rattle.bands.specs.Admitted.{rising}
-use Rattle.due.specs.Due.{Best, from-zero, BelowZero}
+use Rattle.due.specs.Due.{Best, Many, from-zero, BelowZero}
 use Rattle.due.specs.declared.Index.{Index}
 use Rattle.due.specs.declared.Index.the-variants as index
 
@@ -35,3 +38,17 @@ not-negative {r} none i h = ⊎-elim (λ l. l) (λ l. absurd (none (record { ask
 -- the line, written otherwise
 pub best-same : {F : Line → Type 0} {P : Points} {L M : Line} {w z : ℕ} → Same L M → F M → Best F P L w z → Best F P M w z
 best-same e f b = record { member = f; reached = same-within e (b .reached); least = b .least; single = b .single }
+
+-- of points that are the same
+pub best-points : {F : Line → Type 0} {P R : Points} {L : Line} {w z : ℕ} → SamePoints P R → Best F P L w z → Best F R L w z
+best-points e b = record { member = b .member; reached = within-points e (b .reached); least = least-points e (b .least); single = single-points e (b .single) }
+
+pub many-points : {F : Line → Type 0} {P R : Points} {w z : ℕ} → SamePoints P R → Many F P w z → Many F R w z
+many-points e m = record { least = least-points e (m .least); several = several-points e (m .several) }
+
+-- of a slope that is written otherwise
+pub best-parallel : {P : Points} {T T′ L : Line} {w z : ℕ} → Same T T′ → Best (Parallel T) P L w z → Best (Parallel T′) P L w z
+best-parallel {L = L} e b =
+    let to = parallel-same e in
+    let from = parallel-same (same-sym e) in
+    record { member = to L (b .member); reached = b .reached; least = least-family to from (b .least); single = single-family to from (b .single) }

@@ -9,7 +9,8 @@ use Rattle.whole.specs.Sign.{nat-nonneg}
 use Rattle.exact.specs.Value.{Made, nought}
 use Rattle.exact.specs.Exists.{some-made}
 use Rattle.run.specs.declared.Run.{Run}
-use Rattle.due.specs.Due.{refused, only-width, span, Stands, Given, several, one-line, Due, below-zero, one-cycle, given}
+use Rattle.due.specs.Due.{refused, only-width, span, Stands, Due}
+use Rattle.due.specs.Cases.{Counted, Given, several, one-line, below-zero, one-cycle, given, case-due}
 use Rattle.due.specs.Fractions.{none-right, made-alike}
 use Rattle.due.specs.Ground.{AnswerParts, shown, ruled, Ready, ShownBy, LineBy, AnswerBy, line, Rests, Answered, GroundDue}
 use Rattle.due.specs.declared.Answer.{Answer}
@@ -53,9 +54,6 @@ module _ {which : Index} {r : Run} {b : Based} (h : Rests which r b) {a : Answer
 
   stands : Stands r (line b (h .tellable .some)) (h .w) (h .z) a
   stands = record {
-    flat = p .shows .flat;
-    sloping = p .shows .sloping;
-    place = p .place;
     width = width;
     slope = p .line .slope;
     offset = p .line .offset;
@@ -63,8 +61,11 @@ module _ {which : Index} {r : Run} {b : Based} (h : Rests which r b) {a : Answer
     thousandths = p .shows .thousandths;
   }
 
+  counted : Counted (line b (h .tellable .some)) a
+  counted = record { flat = p .shows .flat; sloping = p .shows .sloping; place = p .place }
+
   pub rests-given : Given which r a
-  rests-given = one-line (line b (h .tellable .some)) (h .w) (h .z) (h .some) (h .fits) stands
+  rests-given = one-line (line b (h .tellable .some)) (h .w) (h .z) (h .some) (h .fits) counted stands
 
 -- ---- the answer
 pub ground-ready : (which : Index) (r : Run) (g : Ground) → GroundDue which r g → Ready g
@@ -73,7 +74,7 @@ ground-ready which r (ground.Several h) d = tt
 ground-ready which r (ground.Refused k) d = tt
 
 answered-given : {which : Index} {r : Run} {a : Answer} → Answered which r → Given which r a → Due which r a
-answered-given o g = given (o .fine) (o .from-zero) (o .cycles) g
+answered-given o g = case-due (given (o .fine) (o .from-zero) (o .cycles) g)
 
 pub ground-answer : (which : Index) (r : Run) (g : Ground) {a : Answer} → GroundDue which r g → AnswerBy g (span r) a → Due which r a
 ground-answer which r (ground.Line b) d p = answered-given (d .0) (rests-given (d .1) p)
@@ -82,8 +83,8 @@ ground-answer which r (ground.Several h) {a} d p =
     answered-given (d .0) (several (natAbs (h .w)) (h .q) (d .1) (d .3) w (p .1))
 ground-answer which r (ground.Refused k) {a} d p =
     ⊎-elim
-    (λ e. below-zero (d .0) (e .1) (p ∙ ap (λ (n : ℕ). refused n 0) (e .0)))
-    (λ e. one-cycle (d .0) (e .1) (e .2) (p ∙ ap (λ (n : ℕ). refused n 0) (e .0)))
+    (λ e. case-due (below-zero (d .0) (e .1) (p ∙ ap (λ (n : ℕ). refused n 0) (e .0))))
+    (λ e. case-due (one-cycle (d .0) (e .1) (e .2) (p ∙ ap (λ (n : ℕ). refused n 0) (e .0))))
     (d .1)
 
 -- ---- what is shown is shown of the answer that is due

@@ -10,7 +10,7 @@ use Rattle.run.specs.Run.{input}
 use Rattle.run.specs.Checks.{verdict}
 use Rattle.run.specs.Checked.{checked}
 use Rattle.run.specs.declared.Run.{Run}
-use Rattle.groups.specs.Sums.{limit}
+use Rattle.groups.specs.Search.{limit}
 use Rattle.band.specs.Line.{Points}
 use Rattle.band.specs.Same.{same-written}
 use Rattle.band.specs.Terminal.{terminal-line, terminal-some, terminal}

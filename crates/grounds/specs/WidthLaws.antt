@@ -15,7 +15,8 @@ use Rattle.whole.specs.Greater.{greater-size}
 use Rattle.run.specs.Checks.{verdict}
 use Rattle.run.specs.Checked.{Checked}
 use Rattle.run.specs.declared.Run.{Run}
-use Rattle.groups.specs.Sums.{up-sum, down-sum, limit}
+use Rattle.groups.specs.Sums.{up-sum, down-sum}
+use Rattle.groups.specs.Search.{limit}
 use Rattle.groups.specs.Limit.{total-size, limit-most}
 use Rattle.band.specs.Line.{Line}
 use Rattle.fit.specs.Answer.{BestDue}

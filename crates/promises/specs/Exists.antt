@@ -14,7 +14,7 @@ use Rattle.run.specs.Run.{input}
 use Rattle.run.specs.Checks.{verdict}
 use Rattle.run.specs.Checked.{Checked, checked}
 use Rattle.run.specs.declared.Run.{Run}
-use Rattle.groups.specs.Sums.{limit}
+use Rattle.groups.specs.Search.{limit}
 use Rattle.band.specs.Line.{Line, Points}
 use Rattle.bands.specs.Through.{LargestOf, swing, scatter}
 use Rattle.bands.specs.Parts as lines

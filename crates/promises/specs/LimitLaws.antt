@@ -14,7 +14,8 @@ use Rattle.whole.specs.Every.{every-holds}
 use Rattle.whole.specs.Sign.{le-trans}
 use Rattle.run.specs.Checked.{Checked}
 use Rattle.run.specs.declared.Run.{Run}
-use Rattle.groups.specs.Sums.{up-sum, down-sum, bessel, factor, too-small, limit}
+use Rattle.groups.specs.Sums.{up-sum, down-sum, bessel, factor}
+use Rattle.groups.specs.Search.{too-small, limit}
 use Rattle.groups.specs.Limit.{Smallest, only-smallest, limit-is}
 use Rattle.whole.specs.Greater.{smaller, greater}
 use Rattle.bands.specs.Through.{limit-points, LargestOf, scatter}

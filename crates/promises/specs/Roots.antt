@@ -12,7 +12,8 @@ use Rattle.whole.specs.Order.{le-by, le-of, lt-of, mul-le}
 use Rattle.whole.specs.Sign.{NonNeg, Positive, le-sign, sign-le, lt-sign, le-trans, le-or-gt, nonneg-add, positive-add, nonneg-mul, positive-mul, cancel-le, cert, nonneg-nat, positive-nat}
 use Rattle.run.specs.Checked.{Checked}
 use Rattle.run.specs.declared.Run.{Run}
-use Rattle.groups.specs.Sums.{bessel, factor, limit}
+use Rattle.groups.specs.Sums.{bessel, factor}
+use Rattle.groups.specs.Search.{limit}
 use Rattle.groups.specs.Limit.{limit-is}
 use Rattle.promises.specs.Exact.{root, RoundedUp, exact-limit}
 use Rattle.promises.specs.Cuts.{IsCut, Rounds}

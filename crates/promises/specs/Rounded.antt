@@ -6,7 +6,7 @@ use lib.IntN.{ℤ, pos, natAbs, _+ℤ_, _-ℤ_, _*ℤ_}
 use Rattle.run.specs.Checks.{verdict}
 use Rattle.run.specs.Checked.{checked}
 use Rattle.run.specs.declared.Run.{Run}
-use Rattle.groups.specs.Sums.{limit}
+use Rattle.groups.specs.Search.{limit}
 use Rattle.band.specs.Line.{Line, Within, All, Least}
 use Rattle.band.specs.Same.{same-within}
 use Rattle.fit.specs.Scaled.{within-alike, least-alike}

@@ -10,7 +10,7 @@ use Rattle.whole.specs.Every.{every}
 use Rattle.exact.specs.RoundingLaws.{some-nearest}
 use Rattle.exact.specs.declared.Fraction.{Fraction}
 use Rattle.run.specs.declared.Run.{Run}
-use Rattle.groups.specs.Sums.{too-small}
+use Rattle.groups.specs.Search.{too-small}
 use Rattle.band.specs.Line.{Line, Points, off}
 use Rattle.band.specs.Candidate.{Candidate, one, up, down, num, wide, part}
 use Rattle.band.specs.Terminal.{terminal-part}

@@ -1,16 +1,17 @@
--- Of any table: there is an answer, there is one only, and a number is given exactly when its condition is the first to hold.
+-- Of any table of rows with their tests: there is an answer, which the tests compute, and there is one only.
 use mathlib.Core.Path.{_≡_, refl, sym, _∙_, ap, subst}
 use mathlib.Core.Logic.{_⊎_, inl, inr, _↔_}
 use mathlib.Core.List.{List, [], _∷_, _++_}
 use mathlib.Core.Option.{Option, none, some}
 use Prim.Native.Nat.{ℕ}
 use native.Mathlib.Omega.{arith}
-use Rattle.table.specs.Table.{Row, Given, given-at, accepted, Silent, First, told-or, given, All, Unlike}
+use Rattle.table.specs.Table.{Given, accepted, Quiet, Row, condition, conditions, Silent, First, told-or, given, All, Other, Unlike}
+use Rattle.table.specs.Conditions.{OnePlace, one-first, none-exactly, zero-first}
 
 -- ---- one row
 -- its condition holds at one place at most
-one-place : (row : Row) {p q : ℕ} → row .Told p → row .Told q → p ≡ q
-one-place row {p} {q} h k = let a = row .exact p .0 h in let b = row .exact q .0 k in cc
+one-place : (row : Row) → OnePlace (condition row)
+one-place row p q h k = let a = row .exact p .0 h in let b = row .exact q .0 k in cc
 
 silent-none : (row : Row) → row .found ≡ none → Silent row
 silent-none row e p h = let a = row .exact p .0 h in let z : _≡_ {A = ℕ} 0 1 = cc in omega arith
@@ -21,6 +22,19 @@ none-silent row s = go (row .found) refl
     go : (f : Option ℕ) → row .found ≡ f → f ≡ none
     go none e = refl
     go (some p) e = absurd (s p (row .exact p .1 e))
+
+-- ---- of rows, and of their conditions
+one-places : (rows : List Row) → All OnePlace (conditions rows)
+one-places [] = tt
+one-places (row ∷ rows) = (one-place row, one-places rows)
+
+pub others : (k : ℕ) (rows : List Row) → All (Unlike k) rows → All (Other k) (conditions rows)
+others k [] u = tt
+others k (row ∷ rows) u = (u .0, others k rows (u .1))
+
+pub silent-quiet : (rows : List Row) → All Silent rows ↔ All Quiet (conditions rows)
+silent-quiet [] = (λ h. h, λ h. h)
+silent-quiet (row ∷ rows) = let rest = silent-quiet rows in (λ h. (h .0, rest .0 (h .1)), λ h. (h .0, rest .1 (h .1)))
 
 -- ---- there is an answer
 pub exists : (rows : List Row) → First rows (given rows)
@@ -34,14 +48,7 @@ exists (row ∷ rows) = go (exists rows) (row .found) refl
 
 -- ---- and one only
 pub one : (rows : List Row) {a b : Given} → First rows a → First rows b → a ≡ b
-one [] h k = h ∙ sym k
-one (row ∷ rows) {a} {b} (inl h) (inl k) =
-    let e : a .number ≡ b .number = h .0 ∙ sym (k .0) in
-    let f : a .place ≡ b .place = one-place row (h .1) (k .1) in
-    λ i. record { number = e i; place = f i }
-one (row ∷ rows) {a} {b} (inl h) (inr k) = absurd (k .0 (a .place) (h .1))
-one (row ∷ rows) {a} {b} (inr h) (inl k) = absurd (h .0 (b .place) (k .1))
-one (row ∷ rows) (inr h) (inr k) = one rows (h .1) (k .1)
+one rows = one-first (conditions rows) (one-places rows)
 
 -- what is the first is what is computed
 pub first-given : (rows : List Row) {a : Given} → First rows a → a ≡ given rows
@@ -50,44 +57,16 @@ first-given rows h = one rows h (exists rows)
 pub first-exactly : (rows : List Row) (a : Given) → First rows a ↔ (a ≡ given rows)
 first-exactly rows a = (first-given rows, λ e. subst (First rows) (sym e) (exists rows))
 
--- ---- exactly when
-absent : (k : ℕ) (rows : List Row) (p : ℕ) → ¬ (k ≡ 0) → All (Unlike k) rows → ¬ (First rows (given-at k p))
-absent k [] p n u h = n (ap (λ (a : Given). a .number) h)
-absent k (row ∷ rows) p n u (inl h) = u .0 (h .0)
-absent k (row ∷ rows) p n u (inr h) = absent k rows p n (u .1) (h .1)
-
--- a number other than 0 that no other row has is given at a place exactly when its condition is the first to hold, told of that place
-pub exactly : (before : List Row) (row : Row) (after : List Row) (p : ℕ)
-    → ¬ (row .number ≡ 0) → All (Unlike (row .number)) before → All (Unlike (row .number)) after
-    → First (before ++ (row ∷ after)) (given-at (row .number) p) ↔ (All Silent before × row .Told p)
-exactly [] row after p n ub ua = (there, λ h. inl (refl, h .1))
-  where
-    there : First (row ∷ after) (given-at (row .number) p) → All Silent [] × row .Told p
-    there (inl h) = (tt, h .1)
-    there (inr h) = absurd (absent (row .number) after p n ua (h .1))
-exactly (b ∷ before) row after p n ub ua =
-    let rest = exactly before row after p n (ub .1) ua in
-    (there (rest .0), λ h. inr (h .0 .0, rest .1 (h .0 .1, h .1)))
-  where
-    there : (First (before ++ (row ∷ after)) (given-at (row .number) p) → All Silent before × row .Told p)
-        → First (b ∷ (before ++ (row ∷ after))) (given-at (row .number) p) → All Silent (b ∷ before) × row .Told p
-    there rest (inl h) = absurd (ub .0 (h .0))
-    there rest (inr h) = let k = rest (h .1) in ((h .0, k .0), k .1)
-
 -- accepted exactly when no condition holds, in a table without the number 0
 pub accepted-exactly : (rows : List Row) → All (Unlike 0) rows → First rows accepted ↔ All Silent rows
-accepted-exactly [] u = (λ h. tt, λ h. refl)
-accepted-exactly (row ∷ rows) u = let rest = accepted-exactly rows (u .1) in (there (rest .0), λ h. inr (h .0, rest .1 (h .1)))
-  where
-    there : (First rows accepted → All Silent rows) → First (row ∷ rows) accepted → All Silent (row ∷ rows)
-    there rest (inl h) = absurd (u .0 (h .0))
-    there rest (inr h) = (h .0, rest (h .1))
+accepted-exactly rows u =
+    let e = none-exactly (conditions rows) (others 0 rows u) in
+    let s = silent-quiet rows in
+    (λ h. s .1 (e .0 h), λ h. e .1 (s .0 h))
 
 -- there the number 0 is the answer accepted
 pub zero-accepted : (rows : List Row) (a : Given) → All (Unlike 0) rows → First rows a → a .number ≡ 0 → a ≡ accepted
-zero-accepted [] a u h e = h
-zero-accepted (row ∷ rows) a u (inl h) e = absurd (u .0 (sym e ∙ h .0))
-zero-accepted (row ∷ rows) a u (inr h) e = zero-accepted rows a (u .1) (h .1) e
+zero-accepted rows a u = zero-first (conditions rows) a (others 0 rows u)
 
 -- the number 0 is given exactly when no condition holds
 pub zero-exactly : (rows : List Row) → All (Unlike 0) rows → (given rows .number ≡ 0) ↔ All Silent rows

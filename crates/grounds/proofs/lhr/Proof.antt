@@ -10,7 +10,7 @@ use Rattle.whole.specs.Flags.{yes-T, no-T}
 use Rattle.run.specs.Run.{lent}
 use Rattle.run.specs.Checked.{Checked, checked}
 use Rattle.run.specs.declared.Run.{Run}
-use Rattle.groups.specs.Sums.{limit}
+use Rattle.groups.specs.Search.{limit}
 use Rattle.bands.specs.Through.{limit-points}
 use Rattle.bands.specs.Parts.{Limits, SamePoints}
 use Rattle.bands.specs.Admitted.{admitted-through, admitted}
