@@ -63,7 +63,9 @@ TerminalDue P drawn.Improper = Admitted P → OneValue P → ⊥
 
 -- the shifted terminal line (A2.2.1.1): of the lines of the terminal line's slope the one whose largest deviation is least
 pub record TheShifted (P : Points) (f : Fit) : Type 0 where
-  pub line : (T : Line) → Terminal P T → TheLine (Parallel T) P f
+  pub base : Line
+  pub terminal : Terminal P base
+  pub line : TheLine (Parallel base) P f
 
 abbrev pub ShiftedDue : Points → Drawn → Type 0
 ShiftedDue P (drawn.Line f) = Admitted P × OneValue P × TheShifted P f

@@ -95,14 +95,9 @@ module _ {P : Points} {e : Ends} {r : Spread} (a : Admitted P) (level : OneValue
         regroup : (d w s : ℕ) → d * w * (2 * s * d) ≡ w * (2 * (s * d) * d)
         regroup d w s = omega arith
 
-    shifted-line : (T : Line) → Terminal P T → TheLine (Parallel T) P f
-    shifted-line T h =
-        let same-base : Same base T = terminal-same (a .proper) base T (has-terminal P _ base has t) h in
-        the-line (p .told) M (parallel-same same-base L parallel) same (moved-within (a .proper) range (moved-some (a .proper) base))
-        (least-family (parallel-same same-base) (parallel-same (same-sym same-base)) (moved-least (a .proper) range))
-        (single-family (parallel-same same-base) (parallel-same (same-sym same-base)) (moved-single (a .proper) range))
-        alike
-        (unit-most (f .q) (natAbs (e .s)) (P .d) part (ready .bounds .1 .1 .0))
-
     pub shifted-due : TheShifted P f
-    shifted-due = record { line = shifted-line }
+    shifted-due = record {
+      base = base;
+      terminal = has-terminal P _ base has t;
+      line = the-line (p .told) M parallel same (moved-within (a .proper) range (moved-some (a .proper) base)) (moved-least (a .proper) range) (moved-single (a .proper) range) alike (unit-most (f .q) (natAbs (e .s)) (P .d) part (ready .bounds .1 .1 .0));
+    }

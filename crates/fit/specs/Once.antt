@@ -7,14 +7,14 @@ use Rattle.whole.specs.Sign.{positive-nat, nat-nonneg}
 use Rattle.exact.specs.Value.{Made}
 use Rattle.exact.specs.Once.{same-terms}
 use Rattle.exact.specs.declared.Fraction.{Fraction}
-use Rattle.band.specs.Line.{Line, Points, OneValue, Largest, Several, Same, Terminal}
+use Rattle.band.specs.Line.{Line, Points, Proper, OneValue, Parallel, Largest, Several, Same, Terminal}
 use Rattle.band.specs.Same.{through, same-sym, same-within, exclusive, width-same}
 use Rattle.band.specs.Largest.{largest-same}
 use Rattle.band.specs.Least.{least, all-single}
 use Rattle.band.specs.Terminal.{terminal-line, terminal-some, terminal, terminal-same}
 use Rattle.band.specs.Shift.{Range, moved, moved-parallel, moved-within, moved-least, moved-single, shift-wide, shift-part}
-use Rattle.fit.specs.Answer.{Told, line-of, TheLine, OnlyWidth, BestDue, TerminalDue, ShiftedDue}
-use Rattle.fit.specs.Scaled.{within-alike, several-alike}
+use Rattle.fit.specs.Answer.{Told, line-of, TheLine, OnlyWidth, BestDue, TerminalDue, TheShifted, ShiftedDue}
+use Rattle.fit.specs.Scaled.{within-alike, several-alike, parallel-same, least-family, single-family}
 use Rattle.search.specs.Exists.{some-greatest}
 use Rattle.fit.specs.declared.Fit.{Fit}
 use Rattle.fit.specs.declared.Wide.{Wide}
@@ -95,13 +95,18 @@ one-terminal P (drawn.Several f) s a b = absurd a
 one-terminal P (drawn.Line f) (drawn.Several h) a b = absurd b
 one-terminal P drawn.Improper (drawn.Several h) a b = absurd b
 
--- `shifted`
+-- `shifted`: the best of the terminal line's slope, however that line is written
+pub line-along : {P : Points} {f : Fit} → Proper P → TheShifted P f → (T : Line) → Terminal P T → TheLine (Parallel T) P f
+line-along {P} {f} proper s T t =
+    let e = terminal-same proper (s .base) T (s .terminal) t in
+    let to = parallel-same e in
+    let from = parallel-same (same-sym e) in
+    let l = s .line in
+    record { told = l .told; member = to (line-of f (l .told .some)) (l .member); reached = l .reached; least = least-family to from (l .least); single = single-family to from (l .single); unit = l .unit }
+
 pub one-shifted : (P : Points) (r s : Drawn) → ShiftedDue P r → ShiftedDue P s → Agree r s
 one-shifted P (drawn.Line f) (drawn.Line h) a b =
-    let some = terminal-some (a .0 .proper) in
-    let T = terminal-line P some in
-    let t = terminal (a .0 .proper) some in
-    line-once (a .2 .line T t) (b .2 .line T t)
+    line-once (line-along (a .0 .proper) (a .2) (b .2 .base) (b .2 .terminal)) (b .2 .line)
 one-shifted P (drawn.Line f) drawn.Improper a b = b (a .0) (a .1)
 one-shifted P drawn.Improper (drawn.Line h) a b = a (b .0) (b .1)
 one-shifted P drawn.Improper drawn.Improper a b = tt
@@ -126,7 +131,7 @@ pub record Moved (P : Points) (T : Line) (lo hi : ℤ) (some : 0 < 2 * P .d * T 
 pub shifted-moved : {P : Points} {f : Fit} → ShiftedDue P (drawn.Line f) → {T : Line} → Terminal P T → {lo hi : ℤ} → Range P T lo hi → (some : 0 < 2 * P .d * T .q) → Moved P T lo hi some f
 shifted-moved {P} {f} due {T} t {lo} {hi} R some =
     let proper = due .0 .proper in
-    let a = due .2 .line T t in
+    let a = line-along proper (due .2) T t in
     let l = moved-least proper R in
     let e = width-same (a .least) l in
     record {

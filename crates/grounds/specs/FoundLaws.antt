@@ -7,6 +7,7 @@ use mathlib.Core.Bool.{false}
 use lib.IntN.{natAbs}
 use Rattle.exact.specs.Exists.{some-made}
 use Rattle.run.specs.Checks.{verdict}
+use Rattle.run.specs.Checked.{checked}
 use Rattle.run.specs.declared.Run.{Run}
 use Rattle.band.specs.Line.{Points}
 use Rattle.fit.specs.Answer.{Told, line-of, BestDue}
@@ -44,6 +45,10 @@ whole-width-tells h = record { w-is = refl; q-is = refl; width = some-made (h .w
 -- ---- an index that neither 15 nor 13 refuses
 pub plainly : (which : Index) {r : Run} → from-zero which ≡ false → scatters which ≡ false → verdict r .number ≡ 0 → Answered which r
 plainly which e f v = record { fine = v; from-zero = λ h. absurd (subst T e (h .asked)); cycles = λ h. absurd (subst T f (h .0)) }
+
+-- where limits are asked for, the run has two cycles or more
+pub cycles-two : (which : Index) {r : Run} → T (scatters which) → Answered which r → 2 ≤ r .n
+cycles-two which {r} t o = let n = checked r (o .fine) .n-least in let e : r .n ≡ 1 → ⊥ = λ e. o .cycles (t, e) in omega arith
 
 -- ---- with its own width
 pub own-rests : {which : Index} {r : Run} {c : Course} (t : Told (whole c)) → Fits which r (line-of (whole c) (t .some)) (natAbs (c .w)) (c .q) → Rests which r (owned c)

@@ -11,10 +11,9 @@ use Rattle.run.specs.Checks.{verdict}
 use Rattle.run.specs.Checked.{checked}
 use Rattle.run.specs.declared.Run.{Run}
 use Rattle.groups.specs.Search.{limit}
+use Rattle.groups.specs.Rounded.{with-found}
 use Rattle.band.specs.Line.{Points}
 use Rattle.band.specs.Same.{same-written}
-use Rattle.band.specs.Terminal.{terminal-line, terminal-some, terminal}
-use Rattle.band.specs.Band.{Admitted}
 use Rattle.fit.specs.Answer.{BestDue, TheTerminal, TheShifted}
 use Rattle.fit.specs.Once.{level-single}
 use Rattle.fit.specs.Plot.{CourseDue, PlotDue}
@@ -31,7 +30,7 @@ use Rattle.due.specs.declared.Ground.the-variants as ground
 use Rattle.due.specs.declared.Index.the-variants as index
 use Rattle.grounds.specs.Found.{owned, stood}
 use Rattle.grounds.specs.SameLine.{best-line, many-lines, best-points, many-points, best-family, many-family}
-use Rattle.grounds.specs.FoundLaws.{whole, whole-tells, whole-width, plainly, own-rests, plot-stands}
+use Rattle.grounds.specs.FoundLaws.{whole, whole-tells, whole-width, plainly, cycles-two, own-rests, plot-stands}
 
 -- ---- the terminal line and the shifted one
 module _ {P : Points} (r : Run) {c : Course} (fine : verdict r .number ≡ 0) (e : SamePoints P (means r)) where
@@ -40,17 +39,16 @@ module _ {P : Points} (r : Run) {c : Course} (fine : verdict r .number ≡ 0) (e
       let t = d .due (whole c) (whole-tells c) in
       (plainly index.Terminal refl refl fine, own-rests (t .told) (terminal-points e (omega (arith, checked r fine .m-least)) (t .ends), largest-points e (t .largest)))
 
-  pub shifted-stands : Admitted P → CourseDue (TheShifted P) c → GroundDue index.Shifted r (ground.Line (owned c))
-  shifted-stands a d =
+  pub shifted-stands : CourseDue (TheShifted P) c → GroundDue index.Shifted r (ground.Line (owned c))
+  shifted-stands d =
       let t = d .due (whole c) (whole-tells c) in
-      let T = terminal-line P (terminal-some (a .proper)) in
-      let told = t .line T (terminal (a .proper) (terminal-some (a .proper))) .told in
-      let some : 0 < P .m = omega (arith, e .m, checked r fine .m-least) in (
+      (
         plainly index.Shifted refl refl fine,
-        own-rests told
-            (λ T h.
-            let line = t .line T (terminal-points (same-points-sym e) some h) in
-            best-same (same-written refl refl refl) (line .member) (best-points e line)),
+        own-rests (t .line .told) (record {
+          base = t .base;
+          terminal = terminal-points e (omega (arith, checked r fine .m-least)) (t .terminal);
+          best = best-same (same-written refl refl refl) (t .line .member) (best-points e (t .line));
+        }),
       )
 
 -- ---- the best lines
@@ -66,9 +64,9 @@ strokes-stand r fine = let o = plainly index.Lh refl refl fine in plot-stands o
     (λ h d. (o, d .1 .some, d .1 .sign, many-lines (d .1)))
 
 pub limits-stand : (r : Run) → Answered index.Lhr r → (p : Plotted) → PlotDue (BestDue (limit-points r (limit r))) p → GroundDue index.Lhr r (stood p)
-limits-stand r o = plot-stands o
-    (λ c d. own-rests (d .1 .told) (best-line (d .1)))
-    (λ h d. (o, d .1 .some, d .1 .sign, many-lines (d .1)))
+limits-stand r o = let k = cycles-two index.Lhr tt o in plot-stands o
+    (λ c d. own-rests (d .1 .told) (with-found (checked r (o .fine)) k (best-line (d .1))))
+    (λ h d. (o, d .1 .some, d .1 .sign, with-found (checked r (o .fine)) k (many-lines (d .1))))
 
 -- ---- negative inputs
 pub points-not-negative : (P : Points) (r : Run) → (BelowZero index.Zero r → ⊥) → SamePoints P (means r) → NoNegative P

@@ -13,10 +13,11 @@ use Rattle.whole.specs.Sign.{nonneg-mul, nonneg-nat}
 use Rattle.whole.specs.Size.{size-sub, size-product}
 use Rattle.whole.specs.Greater.{greater-size}
 use Rattle.run.specs.Checks.{verdict}
-use Rattle.run.specs.Checked.{Checked}
+use Rattle.run.specs.Checked.{Checked, checked}
 use Rattle.run.specs.declared.Run.{Run}
 use Rattle.groups.specs.Sums.{up-sum, down-sum}
 use Rattle.groups.specs.Search.{limit}
+use Rattle.groups.specs.Rounded.{with-found}
 use Rattle.groups.specs.Limit.{total-size, limit-most}
 use Rattle.band.specs.Line.{Line}
 use Rattle.fit.specs.Answer.{BestDue}
@@ -38,7 +39,7 @@ use Rattle.due.specs.declared.Index.the-variants as index
 use Rattle.grounds.specs.Basis.{Sides}
 use Rattle.grounds.specs.Found.{wide-index, Narrow, Widened}
 use Rattle.grounds.specs.SameLine.{best-line}
-use Rattle.grounds.specs.FoundLaws.{whole, whole-tells, whole-width, whole-width-tells, plainly}
+use Rattle.grounds.specs.FoundLaws.{whole, whole-tells, whole-width, whole-width-tells, plainly, cycles-two}
 
 -- ---- 13
 module _ (which : Index) (r : Run) (e : from-zero which ≡ false) (fine : verdict r .number ≡ 0) where
@@ -61,9 +62,9 @@ width-most widths.Scatter {r} c i h = greater-size (pos (limit r 0 i)) (pos (lim
 pub widest-most : (k : Width) {r : Run} {w : ℕ} → Checked r → LargestOf (r .m) (width-at k r) w → w ≤ 20000000
 widest-most k {r} c l = subst (λ (w : ℕ). w ≤ 20000000) (l .reached) (width-most k c (l .place) (l .within))
 
-fits-wide : (k : Width) (r : Run) {L : Line} {w : ℕ} → Independent r L → LargestOf (r .m) (width-at k r) w → Fits (wide-index k) r L w (r .n)
-fits-wide widths.Swing r i l = (i, l, refl)
-fits-wide widths.Scatter r i l = (i, l, refl)
+fits-wide : (k : Width) (r : Run) {L : Line} {w : ℕ} → Answered (wide-index k) r → Independent r L → LargestOf (r .m) (width-at k r) w → Fits (wide-index k) r L w (r .n)
+fits-wide widths.Swing r o i l = (i, l, refl)
+fits-wide widths.Scatter r o i l = (i, with-found (checked r (o .fine)) (cycles-two index.Repeatability tt o) l, refl)
 
 -- the line's denominator is small: it is at most 120,000 units
 pub narrow : {r : Run} → Checked r → (p : Plotted) → PlotDue (BestDue (means r)) p → Narrow p
@@ -71,29 +72,29 @@ narrow k (plotted.Line c) d = omega (arith, d .due (drawn.Line (whole c)) (whole
 narrow k (plotted.Several h) d = tt
 
 -- ---- the width over the line's denominator
-module _ (k : Width) {r : Run} (checked : Checked r) (o : Answered (wide-index k) r) {v : ℤ} (sign : pos 0 ≤ℤ v) (l : LargestOf (r .m) (width-at k r) (natAbs v)) where
+module _ (k : Width) {r : Run} (known : Checked r) (o : Answered (wide-index k) r) {v : ℤ} (sign : pos 0 ≤ℤ v) (l : LargestOf (r .m) (width-at k r) (natAbs v)) where
   pub width-stands : (p : Plotted) → PlotDue (BestDue (means r)) p → (g : Ground) → Widened p v (r .n) g → GroundDue (wide-index k) r g
   width-stands (plotted.Line c) d g is =
       let line = d .due (drawn.Line (whole c)) (whole-tells c) .1 in
       let t = line .told in
       let size = size-product v (pos (c .q)) in
-      let most = widest-most k checked l in
+      let most = widest-most k known l in
       subst (GroundDue (wide-index k) r) (sym is) (
         o,
         record {
           tellable = record {
             some = t .some;
-            unit = checked .n-least;
+            unit = known .n-least;
             sign = nonneg-mul sign (nonneg-nat (c .q));
-            num-most = omega (arith, size, mul-le-mul-right (c .q) most, narrow checked (plotted.Line c) d);
+            num-most = omega (arith, size, mul-le-mul-right (c .q) most, narrow known (plotted.Line c) d);
             a-most = t .a-most;
-            unit-most = checked .n-most;
+            unit-most = known .n-most;
             q-most = t .q-most;
           };
           w = natAbs v;
           z = r .n;
-          some = checked .n-least;
-          fits = fits-wide k r (record { w = natAbs (c .w); z = c .q; best = best-line line }) l;
+          some = known .n-least;
+          fits = fits-wide k r o (record { w = natAbs (c .w); z = c .q; best = best-line line }) l;
           is = regroup (natAbs v) (r .n) (c .q) ∙ ap (λ (n : ℕ). n * r .n) (sym size);
         },
       )

@@ -30,7 +30,7 @@ returns c =
     let u = t .before in
     let s = u .before in
     let e = meant-same (s .pre) (u .mean-unit .ensures) in
-    subst (λ (b : Based). GroundDue index.Shifted (run s) (ground.Line b)) (sym (c .own .ensures)) (shifted-stands (run s) (s .pre .fine) e (meant-admitted (s .pre) (u .mean-unit .ensures)) (t .shifted-of .ensures))
+    subst (λ (b : Based). GroundDue index.Shifted (run s) (ground.Line b)) (sym (c .own .ensures)) (shifted-stands (run s) (s .pre .fine) e (t .shifted-of .ensures))
 
 pub shifted-spec : {M : Type 1} → statement M
 shifted-spec = tie.close (tie.spec mean-unit-requires shifted-of-requires own-requires returns)
