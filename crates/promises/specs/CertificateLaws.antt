@@ -13,15 +13,17 @@ use Rattle.whole.specs.Every.{every, every-holds}
 use Rattle.run.specs.Checks.{verdict}
 use Rattle.run.specs.Checked.{Checked, checked}
 use Rattle.run.specs.declared.Run.{Run}
+use Rattle.groups.specs.Rounded.{limits-agree, limits-found}
 use Rattle.band.specs.Line.{Line, Points, Proper, All, Passing}
 use Rattle.band.specs.Candidate.{Candidate, wide, part}
 use Rattle.pin.specs.Pair as pair
 use Rattle.bands.specs.Through.{means, swing, scatter}
-use Rattle.bands.specs.Parts.{SamePoints}
 use Rattle.bands.specs.Parts as lines
-use Rattle.bands.specs.Transfer.{same-points-sym, proper-points, within-points, least-points, single-points}
+use Rattle.bands.specs.Transfer.{proper-points}
+use Rattle.bands.specs.Limited.{same-limit-points}
 use Rattle.bands.specs.Admitted.{proper-means, proper-through}
-use Rattle.due.specs.Due.{Best, Independent, Fits, from-zero, BelowZero, scatters, OneCycle, Given, several, one-line, Due, given}
+use Rattle.due.specs.Due.{Best, Independent, Fits, from-zero, BelowZero, scatters, OneCycle, Due}
+use Rattle.due.specs.Cases.{Given, several, one-line, given, case-due}
 use Rattle.due.specs.declared.Answer.{Answer}
 use Rattle.due.specs.declared.Index.{Index}
 use Rattle.promises.specs.Figures.{Figure}
@@ -29,13 +31,9 @@ use Rattle.promises.specs.Tests.{all, single, half, line-of}
 use Rattle.promises.specs.TestLaws.{all-hold, alike-by, largest-of-by, stands-by, width-only-by}
 use Rattle.promises.specs.LineLaws.{single-by, best-alike, many-alike, many-by, terminal-by, shifted-by}
 use Rattle.promises.specs.PinLaws.{pinned-by, pinned-many-by}
-use Rattle.promises.specs.LimitLaws.{same-points, same-scatter, largest-same}
+use Rattle.promises.specs.LimitLaws.{limits-by}
 use Rattle.promises.specs.Certificate.{limits, Shown, far, ends, best, zero, front, swings, varies, lh, lhr, Certificate, zero-several, lh-several, best-through, shows, gives, from-zero-up, certifies}
 use Rattle.promises.specs.Certificate as certificate
-
--- the best line of points that are the same
-best-points : {P R : Points} {L : Line} {w z : ℕ} → SamePoints P R → Best All P L w z → Best All R L w z
-best-points e b = record { member = tt; reached = within-points e (b .reached); least = least-points e (b .least); single = single-points e (b .single) }
 
 -- ---- the line and the width of an index
 module _ {r : Run} (c : Checked r) (L : Line) where
@@ -66,19 +64,21 @@ module _ {r : Run} (c : Checked r) (L : Line) where
   shows-by (swings i e) w z n h t = let (s, (l, (k, _))) = all-hold (shows (swings i e) r L w z) t in (independent-by e s, largest-of-by (r .m) (swing r) w i l, eqb→eq z (r .n) k)
   shows-by (varies i e l) w z n h t =
       let (s, (g, (k, (u, _)))) = all-hold (shows (varies i e l) r L w z) t in
-      (independent-by e s, largest-same (same-scatter c (n tt) (limits l) u) (largest-of-by (r .m) (scatter (limits l)) w i g), eqb→eq z (r .n) k)
+      (independent-by e s, record { k = limits l; limits = limits-by r (limits l) u; holds = largest-of-by (r .m) (scatter (limits l)) w i g }, eqb→eq z (r .n) k)
   shows-by (lh e) w z n h t = let (s, (k, _)) = all-hold (shows (lh e) r L w z) t in best-by (proper-through c lines.Strokes) e w z s k
   shows-by (lhr e l) w z n h t =
       let (s, (k, (u, _))) = all-hold (shows (lhr e l) r L w z) t in
-      let p = same-points c (n tt) (limits l) u in
-      best-points p (best-by (proper-points (same-points-sym p) (proper-through c lines.Limits)) e w z s k)
+      let found = limits-by r (limits l) u in
+      let p = same-limit-points r (limits-agree r (limits-found c (n tt)) found) in
+      record { k = limits l; limits = found; holds = best-by (proper-points p (proper-through c lines.Limits)) e w z s k }
 
 -- ---- the answer
 pub gives-by : {which : Index} {r : Run} {a : Answer} → Checked r → (T (scatters which) → 2 ≤ r .n) → (c : Certificate which) → T (all (gives c r a)) → Given which r a
 gives-by {r = r} {a} k n (certificate.one-line w z s) t =
     let (some, (line, (answer, _))) = all-hold (gives (certificate.one-line w z s) r a) t in
     let h = ltb→lt 0 z some in
-    one-line (line-of a) w z h (shows-by k (line-of a) s w z n h line) (stands-by r (line-of a) w z a answer)
+    let both = stands-by r (line-of a) w z a answer in
+    one-line (line-of a) w z h (shows-by k (line-of a) s w z n h line) (both .0) (both .1)
 gives-by {r = r} {a} k n (zero-several w z A B) t =
     let (some, (both, (width, (answer, _)))) = all-hold (gives (zero-several w z A B) r a) t in
     let o = width-only-by w z a answer in
@@ -102,4 +102,4 @@ certified f c t =
     let v : verdict r .number ≡ 0 = eqb→eq (verdict r .number) 0 fine in
     let more : OneCycle (f .which) r → ⊥ = λ o. T-not (scatters (f .which) && eqb (r .n) 1) (yes-and (scatters (f .which)) (eqb (r .n) 1) (o .0) (yes-eqb (o .1))) cycles in
     let k = checked r v in
-    given v (not-below (f .which) r inputs) more (gives-by k (λ s. let e : r .n ≢ 1 = λ e. more (s, e) in omega arith) c answer)
+    case-due (given v (not-below (f .which) r inputs) more (gives-by k (λ s. let e : r .n ≢ 1 = λ e. more (s, e) in omega arith) c answer))

@@ -11,10 +11,12 @@ use Rattle.whole.specs.Poly.{var, lit, neg, _⊕_, _⊖_, _⊗_}
 use Rattle.whole.specs.Order.{lt-by, le-of, lt-of}
 use Rattle.whole.specs.Sign.{NonNeg, le-or-gt, positive-nat, positive-mul, nat-positive}
 use Rattle.whole.specs.Size.{size-of, size-by<}
-use Rattle.promises.specs.Exact.{Cut, RoundedUp, Near, Nearer}
+use Rattle.groups.specs.Cut.{Cut, RoundedUp}
+use Rattle.promises.specs.Exact.{Near, Nearer}
 
--- one number from 0 up is told: with a fraction that it is at most it is at most every greater one, and no fraction that it is at least is greater than one that it is at most
+-- one number from 0 up is told: it is known on both sides of every fraction; with a fraction that it is at most it is at most every greater one, and no fraction that it is at least is greater than one that it is at most
 pub record IsCut (A : Cut) : Type 0 where
+  pub known : (t : ℤ) (q : ℕ) → 0 < q → A .AtMost t q ⊎ A .AtLeast t q
   pub rises : (t t′ : ℤ) (q q′ : ℕ) → 0 < q → 0 < q′ → (t *ℤ pos q′) ≤ℤ (t′ *ℤ pos q) → A .AtMost t q → A .AtMost t′ q′
   pub between : (s t : ℤ) (p q : ℕ) → 0 < p → 0 < q → A .AtLeast s p → A .AtMost t q → (s *ℤ pos q) ≤ℤ (t *ℤ pos p)
   pub from-zero : (t : ℤ) (q : ℕ) → 0 < q → A .AtMost t q → NonNeg t

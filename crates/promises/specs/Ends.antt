@@ -89,21 +89,17 @@ module _ {r : Run} (c : Checked r) where
     highest = refl;
   }
 
-  -- the terminal line moved, which is best of its slope however the terminal line is written
+  -- the terminal line moved, which is best of its slope
   abbrev shifted : Line
   shifted = moved P base lo hi (moved-some proper base)
 
-  shifted-best : (T : Line) → Terminal P T → Best (Parallel T) P shifted (shift-wide lo hi) (shift-part P base)
-  shifted-best T t =
-      let e : Same base T = terminal-same proper base T base-terminal t in
-      let to = parallel-same e in
-      let from = parallel-same (same-sym e) in
-      record {
-        member = to shifted (moved-parallel P base lo hi (moved-some proper base));
-        reached = moved-within proper range (moved-some proper base);
-        least = least-family to from (moved-least proper range);
-        single = single-family to from (moved-single proper range);
-      }
+  shifted-best : Best (Parallel base) P shifted (shift-wide lo hi) (shift-part P base)
+  shifted-best = record {
+    member = moved-parallel P base lo hi (moved-some proper base);
+    reached = moved-within proper range (moved-some proper base);
+    least = moved-least proper range;
+    single = moved-single proper range;
+  }
 
   pub shifted-fit : SomeFit index.Shifted r
-  shifted-fit = record { line = shifted; w = shift-wide lo hi; z = shift-part P base; some = moved-least proper range .some; fits = shifted-best }
+  shifted-fit = record { line = shifted; w = shift-wide lo hi; z = shift-part P base; some = moved-least proper range .some; fits = record { base = base; terminal = base-terminal; best = shifted-best } }

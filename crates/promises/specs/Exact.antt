@@ -1,32 +1,12 @@
 -- Exact limit points, and what it means that a line keeps them (the paper: "The exact limit points of demand 3 have the root itself for k"). Definitions only.
--- A root need be no fraction. So it is known by the fractions t/q that it is at most and those that it is at least, and that is told by comparing squares of whole numbers.
-use mathlib.Core.Logic.{_⊎_}
-use Prim.Native.Nat.{ℕ, _*_, _-_, _<_, _≤_}
+use Prim.Native.Nat.{ℕ, _*_, _<_}
 use lib.IntN.{ℤ, pos, negℤ, _+ℤ_, _-ℤ_, _*ℤ_}
-use lib.Signed.{_≤ℤ_}
 use Rattle.run.specs.Run.{input}
 use Rattle.run.specs.declared.Run.{Run}
-use Rattle.groups.specs.Sums.{up-sum, down-sum, bessel, factor}
+use Rattle.groups.specs.Sums.{up-sum, down-sum}
+use Rattle.groups.specs.Cut.{Cut}
 use Rattle.band.specs.Line.{Line, off}
 use Rattle.bands.specs.Through.{strokes}
-
--- a limit from 0 up: the fractions t/q, q above zero, that it is at most and at least
-pub record Cut : Type 1 where
-  pub AtMost : (t : ℤ) → (q : ℕ) → Type 0
-  pub AtLeast : (t : ℤ) → (q : ℕ) → Type 0
-
--- the number from 0 up whose square times f is e. A negative fraction is never at least it
-abbrev pub root : (e : ℤ) → (f : ℕ) → Cut
-root e f = record { AtMost = λ t q. (pos 0 ≤ℤ t) × ((e *ℤ pos (q * q)) ≤ℤ (t *ℤ t *ℤ pos f)); AtLeast = λ t q. (t ≤ℤ pos 0) ⊎ ((t *ℤ t *ℤ pos f) ≤ℤ (e *ℤ pos (q * q))) }
-
--- k is the limit rounded up: the smallest whole number that it is at most
-pub record RoundedUp (A : Cut) (k : ℕ) : Type 0 where
-  pub up : A .AtMost (pos k) 1
-  pub first : (j : ℕ) → A .AtMost (pos j) 1 → k ≤ j
-
--- the exact limit of a group, in sum units: its square times 1,000,000·(n - 1) is C·C·n·Q
-abbrev pub exact-limit : Run → (stroke point : ℕ) → Cut
-exact-limit r s i = root (pos (factor (r .n) * factor (r .n) * r .n) *ℤ bessel r s i) (1000000 * (r .n - 1))
 
 -- the limit lies within w/z of g/q: it is at most g/q + w/z and at least g/q - w/z
 pub record Near (A : Cut) (g : ℤ) (q : ℕ) (w : ℤ) (z : ℕ) : Type 0 where

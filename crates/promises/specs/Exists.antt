@@ -2,7 +2,7 @@
 use mathlib.Core.Path.{_≡_, refl}
 use mathlib.Core.Bool.{Bool, true, false}
 use mathlib.Core.Logic.{_⊎_, inl, inr}
-use Prim.Native.Nat.{ℕ, _*_, _<_}
+use Prim.Native.Nat.{ℕ, _*_, _<_, _≤_}
 use native.Mathlib.Decide.{ℕ-discrete}
 use native.Mathlib.Omega.{arith}
 use lib.Dec.{T}
@@ -15,10 +15,12 @@ use Rattle.run.specs.Checks.{verdict}
 use Rattle.run.specs.Checked.{Checked, checked}
 use Rattle.run.specs.declared.Run.{Run}
 use Rattle.groups.specs.Search.{limit}
+use Rattle.groups.specs.Rounded.{with-found}
 use Rattle.band.specs.Line.{Line, Points}
 use Rattle.bands.specs.Through.{LargestOf, swing, scatter}
 use Rattle.bands.specs.Parts as lines
-use Rattle.due.specs.Due.{Best, Independent, Fits, Many, SeveralFit, refused, only-width, span, Stands, from-zero, BelowZero, scatters, OneCycle, Given, several, one-line, Due, no-run, below-zero, one-cycle, given}
+use Rattle.due.specs.Due.{Best, Independent, Fits, Many, SeveralFit, refused, only-width, span, Stands, from-zero, BelowZero, scatters, OneCycle, Due}
+use Rattle.due.specs.Cases.{Counted, Given, several, one-line, no-run, below-zero, one-cycle, given, case-due}
 use Rattle.due.specs.DueLaws.{first-negative, below-first, not-negative}
 use Rattle.due.specs.declared.Answer.{Answer}
 use Rattle.due.specs.declared.Index.{Index}
@@ -43,7 +45,7 @@ some-number a = go (ℤ-discrete a (pos 0))
     go (yes e) = record { number = 11; flat = λ _. refl; sloping = λ d. absurd (d e) }
     go (no d) = record { number = 0; flat = λ e. absurd (d e); sloping = λ _. refl }
 
-some-stands : (r : Run) (L : Line) (w z : ℕ) → (a : Answer) × Stands r L w z a
+some-stands : (r : Run) (L : Line) (w z : ℕ) → (a : Answer) × Counted L a × Stands r L w z a
 some-stands r L w z =
     let number = some-number (L .a) in
     let width = some-made (pos w) z in
@@ -52,7 +54,8 @@ some-stands r L w z =
     let index = some-made (pos (w * L .q)) (z * (natAbs (L .a) * span r)) in
     let percent = some-nearest (100000 * natAbs (index .0 .num)) (index .0 .den) (index .1 .lowest .positive) in (
       record { number = number .number; place = 0; width = width .0; slope = slope .0; offset = offset .0; index = index .0; thousandths = percent .0 },
-      record { flat = number .flat; sloping = number .sloping; place = refl; width = width .1; slope = slope .1; offset = offset .1; index = index .1; thousandths = percent .1 },
+      record { flat = number .flat; sloping = number .sloping; place = refl },
+      record { width = width .1; slope = slope .1; offset = offset .1; index = index .1; thousandths = percent .1 },
     )
 
 -- ---- an answer for a checked run
@@ -60,7 +63,7 @@ abbrev Some : Index → Run → Type 0
 Some which r = (a : Answer) × Given which r a
 
 with-line : (which : Index) {r : Run} → SomeFit which r → Some which r
-with-line which {r} f = let s = some-stands r (f .line) (f .w) (f .z) in (s .0, one-line (f .line) (f .w) (f .z) (f .some) (f .fits) (s .1))
+with-line which {r} f = let s = some-stands r (f .line) (f .w) (f .z) in (s .0, one-line (f .line) (f .w) (f .z) (f .some) (f .fits) (s .1) (s .2))
 
 with-width : (which : Index) {r : Run} (w z : ℕ) → 0 < z → SeveralFit which r w z → Some which r
 with-width which w z h m = let f = some-made (pos w) z in (only-width (f .0), several w z h m (f .1) refl)
@@ -82,16 +85,20 @@ module _ {r : Run} (c : Checked r) where
       let l = some-largest (r .m) (omega (arith, c .m-least)) g in
       with-line which (record { line = b .line; w = l .0; z = r .n; some = c .n-least; fits = fits (b .line) (l .0) (record { w = b .w; z = b .z; best = b .best }) (l .1) })
 
-  some-given : (which : Index) → (BelowZero which r → ⊥) → Some which r
-  some-given index.Terminal none = with-line index.Terminal (terminal-fit c)
-  some-given index.Shifted none = with-line index.Shifted (shifted-fit c)
-  some-given index.Independent none = with-best index.Independent (λ L w z b. b) (independent c)
-  some-given index.Zero none = with-fitted index.Zero (λ L w z b. b) (λ w z m. m) (through-origin c (not-negative none))
-  some-given index.Front none = with-best index.Front (λ L w z b. b) (through-first c)
-  some-given index.Hysteresis none = with-other index.Hysteresis (swing r) (λ L w i l. (i, l, refl))
-  some-given index.Repeatability none = with-other index.Repeatability (scatter (limit r)) (λ L w i l. (i, l, refl))
-  some-given index.Lh none = with-fitted index.Lh (λ L w z b. b) (λ w z m. m) (some-fit c lines.Strokes)
-  some-given index.Lhr none = with-fitted index.Lhr (λ L w z b. b) (λ w z m. m) (some-fit c lines.Limits)
+  -- limits are asked for of two cycles or more
+  two : (which : Index) → T (scatters which) → (OneCycle which r → ⊥) → 2 ≤ r .n
+  two which t more = let n = c .n-least in let e : r .n ≡ 1 → ⊥ = λ e. more (t, e) in omega arith
+
+  some-given : (which : Index) → (BelowZero which r → ⊥) → (OneCycle which r → ⊥) → Some which r
+  some-given index.Terminal none more = with-line index.Terminal (terminal-fit c)
+  some-given index.Shifted none more = with-line index.Shifted (shifted-fit c)
+  some-given index.Independent none more = with-best index.Independent (λ L w z b. b) (independent c)
+  some-given index.Zero none more = with-fitted index.Zero (λ L w z b. b) (λ w z m. m) (through-origin c (not-negative none))
+  some-given index.Front none more = with-best index.Front (λ L w z b. b) (through-first c)
+  some-given index.Hysteresis none more = with-other index.Hysteresis (swing r) (λ L w i l. (i, l, refl))
+  some-given index.Repeatability none more = with-other index.Repeatability (scatter (limit r)) (λ L w i l. (i, with-found c (two index.Repeatability tt more) l, refl))
+  some-given index.Lh none more = with-fitted index.Lh (λ L w z b. b) (λ w z m. m) (some-fit c lines.Strokes)
+  some-given index.Lhr none more = with-fitted index.Lhr (λ L w z b. with-found c (two index.Lhr tt more) b) (λ w z m. with-found c (two index.Lhr tt more) m) (some-fit c lines.Limits)
 
 -- ---- an answer
 asked : (b : Bool) → Dec (T b)
@@ -115,10 +122,10 @@ pub some-answer : (which : Index) (r : Run) → (a : Answer) × Due which r a
 some-answer which r = go (ℕ-discrete (verdict r .number) 0)
   where
     accepted : verdict r .number ≡ 0 → Dec (BelowZero which r) → Dec (OneCycle which r) → (a : Answer) × Due which r a
-    accepted e (yes b) _ = (refused 15 0, below-zero e b refl)
-    accepted e (no n) (yes o) = (refused 13 0, one-cycle e n o refl)
-    accepted e (no n) (no more) = let g = some-given (checked r e) which n in (g .0, given e n more (g .1))
+    accepted e (yes b) _ = (refused 15 0, case-due (below-zero e b refl))
+    accepted e (no n) (yes o) = (refused 13 0, case-due (one-cycle e n o refl))
+    accepted e (no n) (no more) = let g = some-given (checked r e) which n more in (g .0, case-due (given e n more (g .1)))
 
     go : Dec (verdict r .number ≡ 0) → (a : Answer) × Due which r a
     go (yes e) = accepted e (below which (checked r e) (asked (from-zero which))) (once which r (asked (scatters which)) (ℕ-discrete (r .n) 1))
-    go (no n) = (refused (verdict r .number) (verdict r .place), no-run n refl)
+    go (no n) = (refused (verdict r .number) (verdict r .place), case-due (no-run n refl))

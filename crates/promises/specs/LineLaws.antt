@@ -24,7 +24,7 @@ use Rattle.band.specs.Terminal as ends
 use Rattle.band.specs.Shift.{Range, moved-least, moved-single}
 use Rattle.band.specs.Same.{through}
 use Rattle.fit.specs.Scaled.{Alike, within-alike, least-alike, several-alike, single-alike, least-family, single-family, parallel-same}
-use Rattle.due.specs.Due.{Best, Many}
+use Rattle.due.specs.Due.{Best, Many, Shifted}
 use Rattle.promises.specs.Tests.{all, same, height, top, near, within, among, triple, greatest, single, half, unlike, many, terminal, between, shifted}
 use Rattle.promises.specs.TestLaws.{all-hold, same-is, alike-by}
 
@@ -127,17 +127,22 @@ range-by P L i j hi hj t = record { from = λ p h. record { le = both p h .0 }; 
 across : (L M N : Line) → Parallel L M → Parallel M N → Parallel L N
 across L M N e f = through (N .a) (M .a) (L .a) _ _ _ (positive-nat (M .some)) f e
 
--- of the lines of the terminal slope, whichever way that line is written, L alone is within w/z
-pub shifted-by : {P : Points} → Proper P → (L : Line) (w z i j : ℕ) → T (all (shifted P L w z i j)) → (M : Line) → Terminal P M → Best (Parallel M) P L w z
-shifted-by {P} proper L w z i j t M end =
+-- of the lines of the terminal slope L alone is within w/z
+pub shifted-by : {P : Points} → Proper P → (L : Line) (w z i j : ℕ) → T (all (shifted P L w z i j)) → Shifted P L w z
+shifted-by {P} proper L w z i j t =
     let (slope, (kept, (low, (high, (ranged, (half, _)))))) = all-hold (shifted P L w z i j) t in
     let some = terminal-some proper in
-    let p : Parallel M L = parallel-same (terminal-same proper (terminal-line P some) M (ends.terminal proper some) end) L (same-is _ _ slope) in
+    let M = terminal-line P some in
+    let p : Parallel M L = same-is _ _ slope in
     let R = range-by P L i j (ltb→lt i (P .m) low) (ltb→lt j (P .m) high) ranged in
     let e = alike-by (natAbs (top P L j -ℤ height P L i)) (2 * L .q * P .d) w z half in
     record {
-      member = p;
-      reached = within-by P L w z kept;
-      least = least-family (λ N f. across M L N p f) (λ N f. across L M N (sym p) f) (least-alike e (moved-least proper R));
-      single = single-family (λ N f. across M L N p f) (λ N f. across L M N (sym p) f) (single-alike e (moved-single proper R));
+      base = M;
+      terminal = ends.terminal proper some;
+      best = record {
+        member = p;
+        reached = within-by P L w z kept;
+        least = least-family (λ N f. across M L N p f) (λ N f. across L M N (sym p) f) (least-alike e (moved-least proper R));
+        single = single-family (λ N f. across M L N p f) (λ N f. across L M N (sym p) f) (single-alike e (moved-single proper R));
+      };
     }

@@ -15,10 +15,11 @@ use Rattle.whole.specs.Size.{size-neg}
 use Rattle.run.specs.Run.{input}
 use Rattle.run.specs.declared.Run.{Run}
 use Rattle.groups.specs.Sums.{up-sum, down-sum}
+use Rattle.groups.specs.Cut.{Cut}
 use Rattle.band.specs.Line.{Line, Within, All, Least}
 use Rattle.band.specs.Seen.{offE}
 use Rattle.bands.specs.Through.{two-valued, limit-points}
-use Rattle.promises.specs.Exact.{Cut, above, Keeps, KeepsCloser}
+use Rattle.promises.specs.Exact.{above, Keeps, KeepsCloser}
 use Rattle.promises.specs.Cuts.{Rounds, closer, strictly}
 
 -- ---- two values at each input: what holds of the smaller and of the greater holds of both, and the other way round

@@ -1,4 +1,4 @@
--- A root is a cut, and the k of a group is its exact limit rounded up.
+-- A root is a cut, and so are the exact limits of a run.
 use mathlib.Core.Path.{_≡_, sym, subst}
 use mathlib.Core.Logic.{_⊎_, inl, inr}
 use mathlib.Core.List.{_∷_, []}
@@ -9,13 +9,10 @@ use lib.Signed.{_≤ℤ_, _<ℤ_}
 use Rattle.whole.specs.Poly.{var, lit, _⊕_, _⊖_, _⊗_}
 use Rattle.whole.specs.Ring.{ring}
 use Rattle.whole.specs.Order.{le-by, le-of, lt-of, mul-le}
-use Rattle.whole.specs.Sign.{NonNeg, Positive, le-sign, sign-le, lt-sign, le-trans, le-or-gt, nonneg-add, positive-add, nonneg-mul, positive-mul, cancel-le, cert, nonneg-nat, positive-nat}
-use Rattle.run.specs.Checked.{Checked}
+use Rattle.whole.specs.Sign.{NonNeg, weaken, Positive, le-sign, sign-le, lt-sign, le-trans, le-or-gt, nonneg-add, positive-add, nonneg-mul, positive-mul, cancel-le, cert, nonneg-nat, positive-nat}
 use Rattle.run.specs.declared.Run.{Run}
 use Rattle.groups.specs.Sums.{bessel, factor}
-use Rattle.groups.specs.Search.{limit}
-use Rattle.groups.specs.Limit.{limit-is}
-use Rattle.promises.specs.Exact.{root, RoundedUp, exact-limit}
+use Rattle.groups.specs.Cut.{root, exact-limit, LimitsOf}
 use Rattle.promises.specs.Cuts.{IsCut, Rounds}
 
 module _ (e : ℤ) (f : ℕ) (some : 0 < f) where
@@ -66,17 +63,19 @@ module _ (e : ℤ) (f : ℕ) (some : 0 < f) where
       go (inl l) = l
       go (inr l) = absurd (greater l)
 
+  -- a fraction below zero is at most it, and of others the squares tell
+  known : (t : ℤ) (q : ℕ) → 0 < q → root e f .AtMost t q ⊎ root e f .AtLeast t q
+  known t q h = sides (le-or-gt (pos 0) t) (le-or-gt (e *ℤ pos (q * q)) (t *ℤ t *ℤ pos f))
+    where
+      sides : (pos 0 ≤ℤ t) ⊎ (t <ℤ pos 0) → ((e *ℤ pos (q * q)) ≤ℤ (t *ℤ t *ℤ pos f)) ⊎ ((t *ℤ t *ℤ pos f) <ℤ (e *ℤ pos (q * q))) → root e f .AtMost t q ⊎ root e f .AtLeast t q
+      sides (inl l) (inl m) = inl (l, m)
+      sides (inl l) (inr m) = inr (inr (weaken m))
+      sides (inr l) m = inr (inl (weaken l))
+
   pub root-cut : IsCut (root e f)
-  root-cut = record { rises = rises; between = between; from-zero = λ t q h a. a .0 }
+  root-cut = record { known = known; rises = rises; between = between; from-zero = λ t q h a. a .0 }
 
--- the smallest k whose square is enough is the root rounded up
-pub root-rounded : (e : ℤ) (f k : ℕ) → e ≤ℤ pos (k * k * f) → ((j : ℕ) → e ≤ℤ pos (j * j * f) → k ≤ j) → RoundedUp (root e f) k
-root-rounded e f k enough least =
-    let one : e *ℤ pos 1 ≡ e = ring (e ∷ []) (var 0 ⊗ lit 1) (var 0) tt in
-    record { up = (nonneg-nat k, subst (λ (t : ℤ). t ≤ℤ pos (k * k * f)) (sym one) enough); first = λ j a. least j (subst (λ (t : ℤ). t ≤ℤ pos (j * j * f)) one (a .1)) }
-
-pub limit-rounds : {r : Run} → Checked r → 2 ≤ r .n → (s i : ℕ) → s < 2 → i < r .m → Rounds (exact-limit r s i) (limit r s i)
-limit-rounds {r} c two s i hs hi =
-    let e = pos (factor (r .n) * factor (r .n) * r .n) *ℤ bessel r s i in
-    let m = limit-is c two s i hs hi in
-    record { cut = root-cut e (1000000 * (r .n - 1)) (omega arith); up = root-rounded e (1000000 * (r .n - 1)) (limit r s i) (m .enough) (m .least) }
+-- the limits of a run of two or more cycles are known as cuts, and rounded up
+pub limits-round : (r : Run) {k : ℕ → ℕ → ℕ} → 2 ≤ r .n → LimitsOf r k → (s i : ℕ) → s < 2 → i < r .m → Rounds (exact-limit r s i) (k s i)
+limits-round r two l s i hs hi =
+    record { cut = root-cut (pos (factor (r .n) * factor (r .n) * r .n) *ℤ bessel r s i) (1000000 * (r .n - 1)) (omega arith); up = l s i hs hi }

@@ -23,6 +23,7 @@ use Rattle.band.specs.Line.{Line}
 use Rattle.fit.specs.Scaled.{Alike}
 use Rattle.bands.specs.Through.{LargestOf}
 use Rattle.due.specs.Due.{only-width, Stands}
+use Rattle.due.specs.Cases.{Counted}
 use Rattle.due.specs.declared.Answer.{Answer}
 use Rattle.promises.specs.Tests.{all, same, divisor, zero-one, made, nearest, alike, largest-of, stands, width-only}
 
@@ -88,20 +89,14 @@ told a n = cond-ind (eqb (natAbs a) 0) 11 0 (λ t. n ≡ t → Told a n)
     (λ t e. (λ _. e, λ h. absurd (h (size-zero a (eqb→eq (natAbs a) 0 t)))))
     (λ t e. (λ h. absurd (eqb-no t (ap natAbs h)), λ _. e))
 
-pub stands-by : (r : Run) (L : Line) (w z : ℕ) (a : Answer) → T (all (stands r L w z a)) → Stands r L w z a
+pub stands-by : (r : Run) (L : Line) (w z : ℕ) (a : Answer) → T (all (stands r L w z a)) → Counted L a × Stands r L w z a
 stands-by r L w z a t =
     let (number, (place, (width, (slope, (offset, (index, (thousandths, _))))))) = all-hold (stands r L w z a) t in
     let n = told (L .a) (a .number) (eqb→eq _ _ number) in
-    record {
-      flat = n .0;
-      sloping = n .1;
-      place = eqb→eq _ _ place;
-      width = made-by _ _ (a .width) width;
-      slope = made-by _ _ (a .slope) slope;
-      offset = made-by _ _ (a .offset) offset;
-      index = made-by _ _ (a .index) index;
-      thousandths = nearest-by _ _ _ thousandths;
-    }
+    (
+      record { flat = n .0; sloping = n .1; place = eqb→eq _ _ place },
+      record { width = made-by _ _ (a .width) width; slope = made-by _ _ (a .slope) slope; offset = made-by _ _ (a .offset) offset; index = made-by _ _ (a .index) index; thousandths = nearest-by _ _ _ thousandths },
+    )
 
 pub width-only-by : (w z : ℕ) (a : Answer) → T (all (width-only w z a)) → Made (pos w) z (a .width) × (a ≡ only-width (a .width))
 width-only-by w z a t =

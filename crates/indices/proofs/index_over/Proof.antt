@@ -8,7 +8,8 @@ use Rattle.run.specs.Checked.{checked}
 use Rattle.run.specs.declared.Run.{Run}
 use Rattle.run.specs.declared.Verdict.{Verdict}
 use Prim.Native.Nat.{ℕ}
-use Rattle.due.specs.Due.{refused, no-run}
+use Rattle.due.specs.Due.{refused}
+use Rattle.due.specs.Cases.{no-run, case-due}
 use Rattle.due.specs.Ground.{AnswerBy}
 use Rattle.due.specs.GroundLaws.{ground-ready, ground-answer}
 use Rattle.grounds.specs.Basis.{spanned, span-is}
@@ -33,7 +34,7 @@ returns c =
     let t = c .before in
     let k = t .before .before in
     let v : k .check-over .result ≡ verdict (run (k .before)) = k .check-over .ensures in
-    no-run (λ e. t .if1 .taken (ap (λ (v : Verdict). v .number) v ∙ e)) (c .refuse .ensures ∙ ap (λ (v : Verdict). refused (v .number) (v .place)) v)
+    case-due (no-run (λ e. t .if1 .taken (ap (λ (v : Verdict). v .number) v ∙ e)) (c .refuse .ensures ∙ ap (λ (v : Verdict). refused (v .number) (v .place)) v))
 
 ground-of-requires : tie.Need-ground-of-requires
 ground-of-requires c κs = fine c
