@@ -74,7 +74,7 @@ module _ {P : Points} {L : Line} {lo hi : ℤ} (proper : Proper P) (R : Range P 
   ordered : lo ≤ℤ hi
   ordered = subst (λ (t : ℤ). lo ≤ℤ t) (R .highest) (le-trans (R .from (R .j) (R .j-fits)) (off-order proper L (R .j) (R .j-fits)))
 
-  wide-is : pos (shift-wide lo hi) ≡ hi -ℤ lo
+  pub wide-is : pos (shift-wide lo hi) ≡ hi -ℤ lo
   wide-is = nat-nonneg (le-sign ordered)
 
   pub moved-within : (some : 0 < moved-part P L) → Within P (moved P L lo hi some) (shift-wide lo hi) (shift-part P L)

@@ -36,10 +36,10 @@ pub data Case (which : Index) (r : Run) (a : Answer) : Type 0 where
   given : verdict r .number ≡ 0 → (BelowZero which r → ⊥) → (OneCycle which r → ⊥) → Given which r a → Case which r a
 
 -- no check refuses the run exactly where none of its conditions holds
-quiet-checks : (r : Run) → verdict r .number ≡ 0 → All Quiet (conditions (checks r))
+pub quiet-checks : (r : Run) → verdict r .number ≡ 0 → All Quiet (conditions (checks r))
 quiet-checks r v = silent-quiet (checks r) .0 (zero-exactly (checks r) (checks-numbers r) .0 v)
 
-checks-quiet : (r : Run) → All Quiet (conditions (checks r)) → verdict r .number ≡ 0
+pub checks-quiet : (r : Run) → All Quiet (conditions (checks r)) → verdict r .number ≡ 0
 checks-quiet r q = zero-exactly (checks r) (checks-numbers r) .1 (silent-quiet (checks r) .1 q)
 
 -- ---- a case is due

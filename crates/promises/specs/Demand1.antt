@@ -1,46 +1,34 @@
--- Demand 1. "Every byte string given as a run file, and every run built by hand, gets its numbers or exactly one refusal of the paper's table, chosen by the paper's order of checks, with the fixed fields listed there; a lent buffer then holds what it held before."
+-- Demand 1. "Every byte string given as a run file, and every run built by hand, gets its numbers or exactly one refusal of the paper's table, chosen by the paper's order of checks, with the fixed fields listed there; a lent buffer then holds what it held before." The statement; `Demand1Holds` proves it.
 --
--- What it says: for each byte string, and for each run and index, there is exactly one answer that has its condition. The conditions of a byte string and of a run built by hand are rows of a table (`records` `Meaning`, `run` `Checks`), and the answer is that of the first row that holds (`table` `Table`); `words` says the same record by record. Those of an index stand in `Due` (due), each saying that none before it holds. The numbers are those of the paper's table and 15 of request C-11, the fields under a refusal are the fixed ones, and a refused write or sheet leaves the buffer as it was.
+-- What it says: for each byte string, and for each run and index, there is exactly one answer. The refusals of a byte string (`records` `Meaning`), of a run built by hand (`run` `Checks`), of an index (`due` `Due`) and of a write (`writer` `File`) are tables, and the number is that of the first condition that holds (`table` `Table`); `words` says it record by record, and `index-exactly` and `write-exactly` number by number. The numbers are those of the paper's table and 15 of request C-11, the fields under a refusal are the fixed ones, and a refused write or sheet leaves the buffer as it was.
 -- What it does not say: what a program reads and prints. No contract can; the comparison with the second program holds it.
-use mathlib.Core.Path.{_≡_, refl, sym, ap, _∙_, subst}
-use mathlib.Core.List.{List, [], _∷_, _++_}
-use mathlib.Core.Logic.{_⊎_, inl, inr, _↔_}
+use mathlib.Core.Path.{_≡_}
+use mathlib.Core.List.{List, [], _∷_}
+use mathlib.Core.Logic.{_⊎_, _↔_}
 use Prim.Native.Nat.{ℕ, _<_, _≤_}
-use native.Mathlib.Decide.{decLt}
-use native.Mathlib.Omega.{arith}
 use lib.Dec.{T}
-use lib.ListN.{length, drop}
+use lib.ListN.{length}
 use Rattle.exact.specs.Value.{nought}
 use Rattle.plain.specs.declared.Printed.{Printed}
 use Rattle.run.specs.Run.{zeros}
 use Rattle.run.specs.Checks as C
 use Rattle.run.specs.Checks.{verdict}
 use Rattle.run.specs.declared.Run.{Run}
-use Rattle.table.specs.Table.{Row, Given, given-at, First, given}
-use Rattle.table.specs.Laws.{exists, first-given, first-exactly}
+use Rattle.table.specs.Table.{given-at, First}
 use Rattle.records.specs.Record.{its}
 use Rattle.records.specs.Meaning.{last-rows, refusals}
 use Rattle.records.specs.Sound.{clean}
-use Rattle.records.specs.FirstFault.{FaultAt, in-words}
+use Rattle.records.specs.FirstFault.{FaultAt}
 use Rattle.format.specs.Format as F
-use Rattle.format.specs.UpTo as U
 use Rattle.record.specs.Kinds.{run-file}
 use Rattle.reader.specs.Meaning as M
 use Rattle.reader.specs.Meaning.{meaning, FileDue, CloseDue}
-use Rattle.reader.specs.Once.{meaning-due, one-meaning, close-due, one-close}
-use Rattle.writer.specs.File.{written, buffer-after}
+use Rattle.writer.specs.File.{file, written, buffer-after}
 use Rattle.averages.specs.Averages.{AveragesDue}
-use Rattle.averages.specs.Once.{one-averages}
-use Rattle.due.specs.Due as D
-use Rattle.due.specs.Due.{refused, only-width, Due, no-run, below-zero, one-cycle, several, one-line}
-use Rattle.due.specs.Once.{one-answer}
+use Rattle.due.specs.Due.{BelowZero, OneCycle, SeveralReach, LevelLine, only-width, refused, Due}
 use Rattle.due.specs.declared.Answer.{Answer}
 use Rattle.due.specs.declared.Index.{Index}
-use Rattle.sheet_text.specs.Sheet.{SheetDue, PrintDue, fits, short}
-use Rattle.sheet_text.specs.Once.{one-sheet, one-print}
-use Rattle.promises.specs.Exists.{some-answer}
-use Rattle.promises.specs.Sheets.{some-averages, some-sheet}
-use Rattle.promises.specs.Numbers.{verdict-ind, file-most, file-zeros, stands-ind, flat-index, write-ind, write-none}
+use Rattle.sheet_text.specs.Sheet.{SheetDue, PrintDue}
 
 -- exactly one has the property
 pub record ExactlyOne {A : Type 0} (P : A → Type 0) : Type 0 where
@@ -52,6 +40,26 @@ pub record ExactlyOne {A : Type 0} (P : A → Type 0) : Type 0 where
 abbrev pub Among : ℕ → List ℕ → Type 0
 Among n [] = ⊥
 Among n (k ∷ ks) = (n ≡ k) ⊎ Among n ks
+
+-- no check refuses the run
+abbrev pub Passed : Run → Type 0
+Passed r = verdict r .number ≡ 0
+
+-- each number of an index is given exactly when its condition is the first to hold, and 0 when none holds
+pub record IndexExactly (which : Index) (r : Run) (a : Answer) : Type 0 where
+  pub fifteen : (a .number ≡ 15) ↔ (Passed r × BelowZero which r)
+  pub thirteen : (a .number ≡ 13) ↔ (Passed r × ¬ (BelowZero which r) × OneCycle which r)
+  pub twelve : (a .number ≡ 12) ↔ (Passed r × ¬ (BelowZero which r) × ¬ (OneCycle which r) × SeveralReach which r)
+  pub eleven : (a .number ≡ 11) ↔ (Passed r × ¬ (BelowZero which r) × ¬ (OneCycle which r) × ¬ (SeveralReach which r) × LevelLine which r)
+  pub zero : (a .number ≡ 0) ↔ (Passed r × ¬ (BelowZero which r) × ¬ (OneCycle which r) × ¬ (SeveralReach which r) × ¬ (LevelLine which r))
+  -- any other number is that of the checks of the run, with their place
+  pub of-run : ¬ (Passed r) → (a .number ≡ verdict r .number) × (a .place ≡ verdict r .place)
+
+-- each number of a write
+pub record WriteExactly (r : Run) (buffer : List ℕ) : Type 0 where
+  pub fourteen : (written r buffer .number ≡ 14) ↔ (Passed r × (length buffer < length (file r)))
+  pub zero : (written r buffer .number ≡ 0) ↔ (Passed r × (length (file r) ≤ length buffer))
+  pub of-run : ¬ (Passed r) → (written r buffer .number ≡ verdict r .number) × (written r buffer .place ≡ verdict r .place)
 
 -- the fixed fields: under 11 the width and the line stand, under 12 the width alone, under any other refusal nothing. The place is 0 when accepted, and under 11, 12, 13 and 15
 pub record Fixed (a : Answer) : Type 0 where
@@ -67,7 +75,7 @@ pub record Print : Type 0 where
   pub answer : Printed
   pub buffer : List ℕ
 
-pub record Answered : Type 0 where
+pub record Demand1 : Type 0 where
   -- a byte string
   pub file : (s : List ℕ) → ExactlyOne (FileDue s)
   pub words : (s : List ℕ) (k l : ℕ) → First (refusals (F.file run-file s)) (given-at k l)
@@ -80,97 +88,15 @@ pub record Answered : Type 0 where
   -- a run built by hand
   pub checks : (r : Run) → ExactlyOne (First (C.checks r))
   pub index : (which : Index) (r : Run) → ExactlyOne (Due which r)
+  pub index-exactly : (which : Index) (r : Run) (a : Answer) → Due which r a → IndexExactly which r a
   pub index-number : (which : Index) (r : Run) (a : Answer) → Due which r a → Among (a .number) (0 ∷ 3 ∷ 5 ∷ 9 ∷ 10 ∷ 11 ∷ 12 ∷ 13 ∷ 15 ∷ [])
   pub index-fixed : (which : Index) (r : Run) (a : Answer) → Due which r a → Fixed a
   pub averages : (r : Run) → ExactlyOne (AveragesDue r)
   -- a buffer lent to the writer
+  pub write-exactly : (r : Run) (buffer : List ℕ) → WriteExactly r buffer
   pub write-number : (r : Run) (buffer : List ℕ) → Among (written r buffer .number) (0 ∷ 3 ∷ 5 ∷ 9 ∷ 10 ∷ 14 ∷ [])
   pub write-refused : (r : Run) (buffer : List ℕ) → (written r buffer .number ≡ 0 → ⊥) → (written r buffer .len ≡ 0) × (buffer-after r buffer ≡ buffer)
   -- a buffer lent for the sheet
   pub sheet : (s : List ℕ) → ExactlyOne (SheetDue s)
   pub print : (s before : List ℕ) → ExactlyOne (λ (p : Print). PrintDue s before (p .buffer) (p .answer))
   pub print-refused : (s before after : List ℕ) (q : Printed) → PrintDue s before after q → (q .number ≡ 0 → ⊥) → (q ≡ record { number = 14; len = 0 }) × (after ≡ before)
-
--- ---- it holds
--- the number of an index
-abbrev IndexNumber : ℕ → Type 0
-IndexNumber n = Among n (0 ∷ 3 ∷ 5 ∷ 9 ∷ 10 ∷ 11 ∷ 12 ∷ 13 ∷ 15 ∷ [])
-
-number-among : {which : Index} {r : Run} {a : Answer} → Due which r a → IndexNumber (a .number)
-number-among {r = r} (no-run n e) =
-    subst IndexNumber (sym (ap (λ (a : Answer). a .number) e)) (verdict-ind r IndexNumber (inl refl) (inr (inl refl)) (inr (inr (inl refl))) (inr (inr (inr (inl refl)))) (inr (inr (inr (inr (inl refl))))))
-number-among (below-zero v b e) = inr (inr (inr (inr (inr (inr (inr (inr (inl (ap (λ (a : Answer). a .number) e)))))))))
-number-among (one-cycle v n o e) = inr (inr (inr (inr (inr (inr (inr (inl (ap (λ (a : Answer). a .number) e))))))))
-number-among (D.given v n o (several w z h m f e)) = inr (inr (inr (inr (inr (inr (inl (ap (λ (a : Answer). a .number) e)))))))
-number-among (D.given v n o (one-line L w z h f s)) = stands-ind s IndexNumber (inl refl) (inr (inr (inr (inr (inr (inl refl))))))
-
--- the fields of an index: under 12 and more
-more : {a : Answer} → 12 ≤ a .number → (a .number ≡ 12 → a ≡ only-width (a .width)) → (a .number ≡ 13 → a ≡ refused 13 0) → (a .number ≡ 15 → a ≡ refused 15 0) → Fixed a
-more h twelve thirteen fifteen = record { accepted = λ i. absurd (omega arith); flat = λ i. absurd (omega arith); several = twelve; one-cycle = thirteen; below-zero = fifteen; no-run = λ l _. absurd (omega arith) }
-
-fixed : {which : Index} {r : Run} {a : Answer} → Due which r a → Fixed a
-fixed {r = r} {a} (no-run n e) =
-    let k : a .number ≡ verdict r .number = ap (λ (a : Answer). a .number) e in
-    let most : verdict r .number ≤ 10 = verdict-ind r (λ n. n ≤ 10) (omega arith) (omega arith) (omega arith) (omega arith) (omega arith) in
-    record {
-      accepted = λ i. absurd (n (sym k ∙ i));
-      flat = λ i. absurd (omega arith);
-      several = λ i. absurd (omega arith);
-      one-cycle = λ i. absurd (omega arith);
-      below-zero = λ i. absurd (omega arith);
-      no-run = λ _ _. e ∙ sym (ap (λ (a : Answer). refused (a .number) (a .place)) e);
-    }
-fixed {a = a} (below-zero v b e) =
-    let k : a .number ≡ 15 = ap (λ (a : Answer). a .number) e in
-    more (omega arith) (λ i. absurd (omega arith)) (λ i. absurd (omega arith)) (λ _. e)
-fixed {a = a} (one-cycle v n o e) =
-    let k : a .number ≡ 13 = ap (λ (a : Answer). a .number) e in
-    more (omega arith) (λ i. absurd (omega arith)) (λ _. e) (λ i. absurd (omega arith))
-fixed {a = a} (D.given v n o (several w z h m f e)) =
-    let k : a .number ≡ 12 = ap (λ (a : Answer). a .number) e in
-    more (omega arith) (λ _. e) (λ i. absurd (omega arith)) (λ i. absurd (omega arith))
-fixed (D.given v n o (one-line L w z h f s)) =
-    record {
-      accepted = λ _. s .place;
-      flat = λ i. (s .place, flat-index s i .0, flat-index s i .1);
-      several = λ i. absurd (stands-ind s (λ n. n ≡ 12 → ⊥) (λ e. omega arith) (λ e. omega arith) i);
-      one-cycle = λ i. absurd (stands-ind s (λ n. n ≡ 13 → ⊥) (λ e. omega arith) (λ e. omega arith) i);
-      below-zero = λ i. absurd (stands-ind s (λ n. n ≡ 15 → ⊥) (λ e. omega arith) (λ e. omega arith) i);
-      no-run = λ i n. absurd (stands-ind s (λ n. n ≤ 10 → (n ≡ 0 → ⊥) → ⊥) (λ _ n. n refl) (λ i _. omega arith) i n);
-    }
-
--- a lent buffer
-some-print : (s before : List ℕ) → (p : Print) × PrintDue s before (p .buffer) (p .answer)
-some-print s before = go (decLt (length before) (length t))
-  where
-    t : List ℕ
-    t = some-sheet s .0
-
-    go : Dec (length before < length t) → (p : Print) × PrintDue s before (p .buffer) (p .answer)
-    go (yes h) = (record { answer = record { number = 14; len = 0 }; buffer = before }, short t (some-sheet s .1) h refl refl)
-    go (no h) = (record { answer = record { number = 0; len = length t }; buffer = t ++ drop (length t) before }, fits t (some-sheet s .1) (omega arith) refl refl)
-
-refused-print : {s before after : List ℕ} {q : Printed} → PrintDue s before after q → (q .number ≡ 0 → ⊥) → (q ≡ record { number = 14; len = 0 }) × (after ≡ before)
-refused-print (fits t a l e f) n = absurd (n (ap (λ (q : Printed). q .number) e))
-refused-print (short t a l e f) n = (e, f)
-
-pub demand-1 : Answered
-demand-1 = record {
-  file = λ s. record { one = meaning s; is = meaning-due s; only = λ a h. one-meaning s h (meaning-due s) };
-  words = λ s. in-words (F.file run-file s);
-  file-number = file-most;
-  file-refused = file-zeros;
-  to-close = λ s. record { one = M.to-close s; is = close-due s; only = λ a h. one-close s h (close-due s) };
-  no-eight = λ s e. U.no-eight run-file s _ (first-exactly (refusals (F.up-to-close run-file s)) _ .1 (λ i. given-at (sym e i) (M.to-close s .place)));
-  checks = λ r. record { one = given (C.checks r); is = exists (C.checks r); only = λ a h. first-given (C.checks r) h };
-  index = λ which r. let d = some-answer which r in record { one = d .0; is = d .1; only = λ a e. one-answer which r e (d .1) };
-  index-number = λ which r a. number-among;
-  index-fixed = λ which r a. fixed;
-  averages = λ r. let d = some-averages r in record { one = d .0; is = d .1; only = λ a e. one-averages e (d .1) };
-  write-number = λ r buffer.
-      write-ind r buffer (λ n. Among n (0 ∷ 3 ∷ 5 ∷ 9 ∷ 10 ∷ 14 ∷ [])) (inl refl) (inr (inl refl)) (inr (inr (inl refl))) (inr (inr (inr (inl refl)))) (inr (inr (inr (inr (inl refl))))) (inr (inr (inr (inr (inr (inl refl))))));
-  write-refused = write-none;
-  sheet = λ s. let d = some-sheet s in record { one = d .0; is = d .1; only = λ t e. one-sheet e (d .1) };
-  print = λ s before. let d = some-print s before in record { one = d .0; is = d .1; only = λ p e. let same = one-print e (d .1) in λ i. record { answer = same .answer i; buffer = same .buffer i } };
-  print-refused = λ s before after q. refused-print;
-}

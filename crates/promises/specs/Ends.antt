@@ -35,10 +35,10 @@ module _ {r : Run} (c : Checked r) where
   proper : Proper P
   proper = proper-means c
 
-  base : Line
+  pub base : Line
   base = terminal-line P (terminal-some proper)
 
-  base-terminal : Terminal P base
+  pub base-terminal : Terminal P base
   unfolding base
   base-terminal = terminal proper (terminal-some proper)
 
@@ -70,13 +70,13 @@ module _ {r : Run} (c : Checked r) where
   lowest : Top (r .m) (λ i. negℤ (height i))
   lowest = some-top (r .m) (omega (arith, c .m-least)) (λ i. negℤ (height i))
 
-  abbrev lo : ℤ
+  abbrev pub lo : ℤ
   lo = height (lowest .at)
 
-  abbrev hi : ℤ
+  abbrev pub hi : ℤ
   hi = height (highest .at)
 
-  range : Range P base lo hi
+  pub range : Range P base lo hi
   unfolding height
   range = record {
     from = λ p h. turned (height (lowest .at)) (height p) (lowest .all p h);
@@ -90,7 +90,7 @@ module _ {r : Run} (c : Checked r) where
   }
 
   -- the terminal line moved, which is best of its slope
-  abbrev shifted : Line
+  abbrev pub shifted : Line
   shifted = moved P base lo hi (moved-some proper base)
 
   shifted-best : Best (Parallel base) P shifted (shift-wide lo hi) (shift-part P base)

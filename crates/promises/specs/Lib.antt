@@ -2,8 +2,15 @@ pub mod Exact
 pub mod Reported
 pub mod Figures
 pub mod Demand1
+pub mod Exactly
+pub mod Demand1Holds
 pub mod Demand2
+pub mod MovedLaws
+pub mod FileLaws
+pub mod Within
+pub mod Demand2Holds
 pub mod Demand3
+pub mod Demand3Holds
 pub mod Certified
 pub mod ReportedLaws
 pub mod Cuts

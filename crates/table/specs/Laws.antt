@@ -24,7 +24,7 @@ none-silent row s = go (row .found) refl
     go (some p) e = absurd (s p (row .exact p .1 e))
 
 -- ---- of rows, and of their conditions
-one-places : (rows : List Row) → All OnePlace (conditions rows)
+pub one-places : (rows : List Row) → All OnePlace (conditions rows)
 one-places [] = tt
 one-places (row ∷ rows) = (one-place row, one-places rows)
 
@@ -77,7 +77,7 @@ zero-exactly rows u =
     )
 
 -- ---- tables one behind the other
-pub all-append : (P : Row → Type 0) (a b : List Row) → All P (a ++ b) ↔ (All P a × All P b)
+pub all-append : {A : Type 1} (P : A → Type 0) (a b : List A) → All P (a ++ b) ↔ (All P a × All P b)
 all-append P [] b = (λ h. (tt, h), λ h. h .1)
 all-append P (x ∷ a) b = let ih = all-append P a b in (λ h. let k = ih .0 (h .1) in ((h .0, k .0), k .1), λ h. (h .0 .0, ih .1 (h .0 .1, h .1)))
 
