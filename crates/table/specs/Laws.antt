@@ -51,7 +51,7 @@ pub first-exactly : (rows : List Row) (a : Given) → First rows a ↔ (a ≡ gi
 first-exactly rows a = (first-given rows, λ e. subst (First rows) (sym e) (exists rows))
 
 -- ---- exactly when
-absent : (k : ℕ) (rows : List Row) (p : ℕ) → ¬ (k ≡ 0) → All (Unlike k) rows → ¬ (First rows (given-at k p))
+pub absent : (k : ℕ) (rows : List Row) (p : ℕ) → ¬ (k ≡ 0) → All (Unlike k) rows → ¬ (First rows (given-at k p))
 absent k [] p n u h = n (ap (λ (a : Given). a .number) h)
 absent k (row ∷ rows) p n u (inl h) = u .0 (h .0)
 absent k (row ∷ rows) p n u (inr h) = absent k rows p n (u .1) (h .1)
