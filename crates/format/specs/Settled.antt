@@ -1,6 +1,6 @@
 -- When the answer of a file is settled by its records: it is a refusal, and it stays whatever follows. So it is where a record has a fault, and where a byte follows the close.
 use mathlib.Core.Path.{_≡_, refl, sym, _∙_, ap, subst}
-use mathlib.Core.Bool.{Bool, true, false, not, cond, _&&_}
+use mathlib.Core.Bool.{Bool, true, false, not, cond}
 use mathlib.Core.Logic.{_⊎_, inl, inr}
 use mathlib.Core.List.{List, [], _∷_, _++_, append-assoc}
 use mathlib.Core.Option.{Option, none, some}
@@ -13,46 +13,16 @@ use lib.Seq.{length-take-le}
 use mir.Facts.{and-yes}
 use Rattle.table.specs.Table.{Row, Given, given-at, given}
 use Rattle.run.specs.Run.{zeros}
-use Rattle.records.specs.Record.{Entry, Record, opening, entry, close, unknown, cut, surplus, Labelled, at-label, Recorded, its}
-use Rattle.records.specs.Record.{sizes-of, entries-of, closes, closed, empty, has}
-use Rattle.records.specs.Meaning.{Fault, inside, fits, own-faults, faults, rows-of, last-rows, refusals, read-as, meaning}
-use Rattle.records.specs.Sound.{clear}
+use Rattle.records.specs.Record.{Entry, Record, entry, close, unknown, surplus, Labelled, at-label, Recorded, its, sizes-of, entries-of, closes, closed, has}
+use Rattle.records.specs.Meaning.{inside, own-faults, faults, rows-of, last-rows, refusals, read-as, meaning}
+use Rattle.records.specs.Sound.{clear, clear-entry}
 use Rattle.records.specs.FirstFault.{first-here, fault, fault-or, given-record, none-clear}
+use Rattle.records.specs.ByNumber.{fault-number}
 use Rattle.format.specs.Format.{Kind, Format, kind-of, alone, in-front, item, recorded-from, up-to-close, behind-close, file}
 use Rattle.format.specs.Pieces.{one-record}
 use Rattle.format.specs.Taken.{Taken}
 
 -- ---- the faults of one record
--- none, or not 0
-abbrev Numbered : Option ℕ → Type 0
-Numbered none = Unit {0}
-Numbered (some k) = ¬ (k ≡ 0)
-
--- their numbers are not 0
-abbrev Positive : List Fault → Type 0
-Positive [] = Unit {0}
-Positive (f ∷ fs) = (0 < f .number) × Positive fs
-
-first-numbered : (fs : List Fault) → Positive fs → Numbered (first-here fs)
-unfolding first-here
-first-numbered [] h = tt
-first-numbered (f ∷ fs) h = go (f .here) (first-numbered fs (h .1))
-  where
-    go : (b : Bool) → Numbered (first-here fs) → Numbered (cond b (some (f .number)) (first-here fs))
-    go true n = λ e. omega (arith, e, h .0)
-    go false n = n
-
-positive : (before : List Record) (r : Record) → Positive (own-faults before r)
-positive before (opening z) = (omega arith, (omega arith, tt))
-positive before (entry e) = (omega arith, (omega arith, (omega arith, (omega arith, tt))))
-positive before close = (omega arith, (omega arith, tt))
-positive before unknown = (omega arith, tt)
-positive before cut = (omega arith, tt)
-positive before surplus = (omega arith, tt)
-
-numbered : (before : List Record) (r : Record) → Numbered (fault before r)
-numbered before r = first-numbered (faults before r) (omega arith, positive before r)
-
 -- a record without fault has none of its own
 pub own-clear : (before : List Record) (r : Record) → fault before r ≡ none → T (clear (own-faults before r))
 unfolding clear
@@ -60,15 +30,7 @@ own-clear before r e = and-yes (not (closed before)) (clear (own-faults before r
 
 -- an entry without fault is inside the run and at a place of its own
 pub entry-clear : (before : List Record) (e : Entry) → fault before (entry e) ≡ none → T (inside (sizes-of before) e) × T (not (has (e .place) (entries-of before)))
-unfolding clear
-entry-clear before e q = go (empty before) (inside (sizes-of before) e) (fits e) (has (e .place) (entries-of before)) (own-clear before (entry e) q)
-  where
-    go : (a b c d : Bool) → T (not a && (not (not b) && (not (not c) && (not d && true)))) → T b × T (not d)
-    go true b c d t = absurd t
-    go false false c d t = absurd t
-    go false true false d t = absurd t
-    go false true true true t = absurd t
-    go false true true false t = (tt, tt)
+entry-clear before e q = let c = clear-entry before e (none-clear (faults before (entry e)) .0 q) in (c .0, c .2)
 
 -- ---- records of which the answer is settled
 -- the records of a whole file of n bytes
@@ -84,7 +46,7 @@ pub record Settled (K : ℕ) (before : List Record) (xs : (rest : List ℕ) (n :
 -- settled by the first record, if that has a fault; else by the others
 in-order : (K : ℕ) (before : List Record) (at : ℕ) (r : Record) (xs ys : List ℕ → ℕ → List Labelled) → ((rest : List ℕ) (n : ℕ) → ys rest n ≡ at-label at r ∷ xs rest n)
     → (fault before r ≡ none → Settled K (r ∷ before) xs) → Settled K before ys
-in-order K before at r xs ys same later = go (fault before r) refl (numbered before r)
+in-order K before at r xs ys same later = go (fault before r) refl
   where
     one : (o : Option ℕ) → fault before r ≡ o → (rest : List ℕ) (n : ℕ) (more : List Row)
         → given (rows-of before (ys rest n) ++ more) ≡ fault-or o at (given (rows-of (r ∷ before) (xs rest n) ++ more))
@@ -93,9 +55,9 @@ in-order K before at r xs ys same later = go (fault before r) refl (numbered bef
         ∙ given-record before (at-label at r) (xs rest n) more
         ∙ ap (λ (o : Option ℕ). fault-or o at (given (rows-of (r ∷ before) (xs rest n) ++ more))) e
 
-    go : (o : Option ℕ) → fault before r ≡ o → Numbered (fault before r) → Settled K before ys
-    go (some k) e h = record { told = given-at k at; refused = subst Numbered e h; always = λ rest n more l. one (some k) e rest n more }
-    go none e h = let s = later e in record { told = s .told; refused = s .refused; always = λ rest n more l. one none e rest n more ∙ s .always rest n more l }
+    go : (o : Option ℕ) → fault before r ≡ o → Settled K before ys
+    go (some k) e = record { told = given-at k at; refused = λ z. let h = fault-number before r k e in omega arith; always = λ rest n more l. one (some k) e rest n more }
+    go none e = let s = later e in record { told = s .told; refused = s .refused; always = λ rest n more l. one none e rest n more ∙ s .always rest n more l }
 
 -- what a whole file of n bytes tells behind a close
 abbrev told-behind : (end n : ℕ) → List Labelled

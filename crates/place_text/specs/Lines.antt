@@ -14,7 +14,7 @@ use Rattle.reader.specs.Meaning.{meaning}
 use Rattle.reader.specs.declared.Taken.{Taken}
 use Rattle.sentences.specs.Sentences.{record-name, detail-line}
 use Rattle.detail.specs.Marks.{Marked}
-use Rattle.detail.specs.Marking.{input-label}
+use Rattle.detail.specs.Arrays.{input-label}
 use Rattle.detail.specs.declared.Detail.{Detail}
 use Rattle.place_text.specs.Place.{place-words, told-of, detail-of, accepted-line, place-lines, place-of}
 use Rattle.place_text.specs.Words.{head, led, what-words, told-at, told-of-point}

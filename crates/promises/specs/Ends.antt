@@ -70,10 +70,10 @@ module _ {r : Run} (c : Checked r) where
   lowest : Top (r .m) (λ i. negℤ (height i))
   lowest = some-top (r .m) (omega (arith, c .m-least)) (λ i. negℤ (height i))
 
-  abbrev pub lo : ℤ
+  pub lo : ℤ
   lo = height (lowest .at)
 
-  abbrev pub hi : ℤ
+  pub hi : ℤ
   hi = height (highest .at)
 
   pub range : Range P base lo hi
@@ -90,7 +90,7 @@ module _ {r : Run} (c : Checked r) where
   }
 
   -- the terminal line moved, which is best of its slope
-  abbrev pub shifted : Line
+  abbrev shifted : Line
   shifted = moved P base lo hi (moved-some proper base)
 
   shifted-best : Best (Parallel base) P shifted (shift-wide lo hi) (shift-part P base)

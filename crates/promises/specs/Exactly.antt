@@ -27,11 +27,11 @@ at-zero-once : (k : ℕ) (P : Type 0) → OnePlace (at-zero k P)
 at-zero-once k P p q h j = h .0 ∙ sym (j .0)
 
 -- it is silent exactly where its condition does not hold
-quiet-not : {k : ℕ} {P : Type 0} → Quiet (at-zero k P) → ¬ P
-quiet-not q h = q 0 (refl, h)
+quiet-not : (k : ℕ) {P : Type 0} → Quiet (at-zero k P) → ¬ P
+quiet-not k q h = q 0 (refl, h)
 
-not-quiet : {k : ℕ} {P : Type 0} → ¬ P → Quiet (at-zero k P)
-not-quiet n p h = n (h .1)
+not-quiet : (k : ℕ) {P : Type 0} → ¬ P → Quiet (at-zero k P)
+not-quiet k n p h = n (h .1)
 
 module _ (which : Index) (r : Run) where
   abbrev cs : List Condition
@@ -62,7 +62,9 @@ module _ (which : Index) (r : Run) where
         → (before more ++ (at-zero k P ∷ after)) ≡ refusals which r
         → (a .number ≡ k) ↔ (Passed r × All Quiet more × P)
     number-exactly k P more after h um ua is =
-        let x = λ (p : ℕ). exactly (before more) (at-zero k P) after p (λ e. omega arith) (all-append (Other k) cs more .1 (others-high k h, um)) ua in (
+        let x : (p : ℕ) → FirstOf (before more ++ (at-zero k P ∷ after)) (given-at k p) ↔ (All Quiet (before more) × ((p ≡ 0) × P)) =
+            λ p. exactly (before more) (at-zero k P) after p (λ e. omega arith) (all-append (Other k) cs more .1 (others-high k h, um)) ua
+        in (
           λ e.
               let y = x (a .place) .0 (subst (λ (l : List Condition). FirstOf l (given-at k (a .place))) (sym is) (at-number k e)) in
               let q = all-append Quiet cs more .0 (y .0) in
@@ -105,15 +107,15 @@ module _ (which : Index) (r : Run) where
         let i0 = no-number in
         record {
           fifteen = (λ e. let t = i15 .0 e in (t .0, t .2), λ t. i15 .1 (t .0, tt, t .1));
-          thirteen = (λ e. let t = i13 .0 e in (t .0, quiet-not (t .1 .0), t .2), λ t. i13 .1 (t .0, (not-quiet (t .1), tt), t .2));
-          twelve = (λ e. let t = i12 .0 e in (t .0, quiet-not (t .1 .0), quiet-not (t .1 .1 .0), t .2), λ t. i12 .1 (t .0, (not-quiet (t .1), (not-quiet (t .2), tt)), t .3));
+          thirteen = (λ e. let t = i13 .0 e in (t .0, quiet-not 15 (t .1 .0), t .2), λ t. i13 .1 (t .0, (not-quiet 15 (t .1), tt), t .2));
+          twelve = (λ e. let t = i12 .0 e in (t .0, quiet-not 15 (t .1 .0), quiet-not 13 (t .1 .1 .0), t .2), λ t. i12 .1 (t .0, (not-quiet 15 (t .1), (not-quiet 13 (t .2), tt)), t .3));
           eleven = (
-            λ e. let t = i11 .0 e in (t .0, quiet-not (t .1 .0), quiet-not (t .1 .1 .0), quiet-not (t .1 .1 .1 .0), t .2),
-            λ t. i11 .1 (t .0, (not-quiet (t .1), (not-quiet (t .2), (not-quiet (t .3), tt))), t .4),
+            λ e. let t = i11 .0 e in (t .0, quiet-not 15 (t .1 .0), quiet-not 13 (t .1 .1 .0), quiet-not 12 (t .1 .1 .1 .0), t .2),
+            λ t. i11 .1 (t .0, (not-quiet 15 (t .1), (not-quiet 13 (t .2), (not-quiet 12 (t .3), tt))), t .4),
           );
           zero = (
-            λ e. let t = i0 .0 e in (t .0, quiet-not (t .1 .0), quiet-not (t .1 .1 .0), quiet-not (t .1 .1 .1 .0), quiet-not (t .1 .1 .1 .1 .0)),
-            λ t. i0 .1 (t .0, (not-quiet (t .1), (not-quiet (t .2), (not-quiet (t .3), (not-quiet (t .4), tt))))),
+            λ e. let t = i0 .0 e in (t .0, quiet-not 15 (t .1 .0), quiet-not 13 (t .1 .1 .0), quiet-not 12 (t .1 .1 .1 .0), quiet-not 11 (t .1 .1 .1 .1 .0)),
+            λ t. i0 .1 (t .0, (not-quiet 15 (t .1), (not-quiet 13 (t .2), (not-quiet 12 (t .3), (not-quiet 11 (t .4), tt))))),
           );
           of-run = of-run;
         }

@@ -30,7 +30,7 @@ made-is some m = record { lowest = m .lowest; worth = m .worth some }
 
 -- the same value, written otherwise
 is-same : {n n′ : ℤ} {d d′ : ℕ} {f : Fraction} → 0 < d → n *ℤ pos d′ ≡ n′ *ℤ pos d → Is n d f → Is n′ d′ f
-is-same {n} {n′} {d} {d′} {f} some e i = record { lowest = i .lowest; worth = through (f .num) n n′ (f .den) d d′ (positive-nat some) (i .worth) e }
+is-same {n} {n′} {d} {d′} {f} some e i = record { lowest = i .lowest; worth = through (f .num) n n′ _ _ _ (positive-nat some) (i .worth) e }
 
 module _ (r : Run) (e : verdict r .number ≡ 0) where
   c : Checked r
@@ -51,11 +51,11 @@ module _ (r : Run) (e : verdict r .number ≡ 0) where
         range = range c;
         slope = is-same (shifted c .some) (ring (pos d ∷ T .a ∷ pos (T .q) ∷ []) (lit 2 ⊗ var 0 ⊗ var 1 ⊗ var 2) (var 1 ⊗ (lit 2 ⊗ var 0 ⊗ var 2)) tt) slope;
         offset = is-same (L .some) (one .line .offset) (made-is (L .some) (s .offset));
-        width = is-same some (ap (λ (n : ℕ). pos n) (regroup w z d (T .q) (one .width)) ∙ ap (λ (n : ℤ). n *ℤ pos z) (wide-is (proper-means c) (range c))) (made-is some (s .width));
+        width = is-same some (ap (λ (n : ℕ). pos n) (regroup w z d (T .q) (g .w) (one .width)) ∙ ap (λ (n : ℤ). n *ℤ pos z) (wide-is (proper-means c) (range c))) (made-is some (s .width));
       }
     where
-      regroup : (w z d q : ℕ) → {v : ℕ} → w * (2 * q * d) ≡ v * z → w * (2 * d * q) ≡ v * z
-      regroup w z d q h = omega arith
+      regroup : (w z d q v : ℕ) → w * (2 * q * d) ≡ v * z → w * (2 * d * q) ≡ v * z
+      regroup w z d q v h = omega arith
 
   shifted-case : {a : Answer} → Case index.Shifted r a → Moved r a
   shifted-case (no-run n _) = absurd (n e)

@@ -6,7 +6,7 @@ use Prim.Native.Nat.{ℕ}
 use Rattle.table.specs.Table.{Given, given-at, accepted, Condition, Quiet, FirstOf, All, Other}
 
 -- ---- exactly when
-absent : (k : ℕ) (cs : List Condition) (p : ℕ) → ¬ (k ≡ 0) → All (Other k) cs → ¬ (FirstOf cs (given-at k p))
+pub absent : (k : ℕ) (cs : List Condition) (p : ℕ) → ¬ (k ≡ 0) → All (Other k) cs → ¬ (FirstOf cs (given-at k p))
 absent k [] p n u h = n (ap (λ (a : Given). a .number) h)
 absent k (c ∷ cs) p n u (inl h) = u .0 (h .0)
 absent k (c ∷ cs) p n u (inr h) = absent k cs p n (u .1) (h .1)

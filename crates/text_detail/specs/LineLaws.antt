@@ -8,13 +8,13 @@ use lib.IntN.{ℤ}
 use lib.ListN.{length, getD, List·getD-map}
 use Rattle.words.specs.Words.{lines, words}
 use Rattle.run.specs.Places.{Place, input-at, reading-at, same, within}
-use Rattle.records.specs.Record.{Entry, close, Labelled, at-label, its, unlabelled, sizes-of, entries-of}
+use Rattle.records.specs.Record.{Entry, close, Labelled, at-label, its, unlabelled, sizes-of, entries-of, entries}
 use Rattle.record.specs.declared.Record.the-variants.{Opening, Point, Value, Close}
 use Rattle.spoken.specs.Said.{says}
 use Rattle.spoken.specs.declared.Said.{Said}
 use Rattle.spoken.specs.declared.Said.the-variants.{Nothing, Item, Unclear}
 use Rattle.detail.specs.Detail.{label-at, told-where}
-use Rattle.detail.specs.Marks.{entries, Marked}
+use Rattle.detail.specs.Marks.{Marked}
 use Rattle.text.specs.Text.{heard, opening-at, entry-at, gathered, text}
 use Rattle.text_detail.specs.Lines.{item-at, items}
 

@@ -14,13 +14,14 @@ use Rattle.table.specs.Table.{Given, given-at, accepted, told-or, given, First}
 use Rattle.table.specs.Rows.{found-if}
 use Rattle.table.specs.Laws.{exists}
 use Rattle.run.specs.Places.{input-at}
-use Rattle.records.specs.Record.{its, sizes-of, entries-of, has}
+use Rattle.records.specs.Record.{its, sizes-of, entries-of, entries, has}
 use Rattle.records.specs.Meaning.{refusals}
+use Rattle.records.specs.ByNumber.{ten-scattered}
+use Rattle.records.specs.Closed.{closed-there}
 use Rattle.record.specs.declared.Record.the-variants.{Opening, Point, Value, Close}
 use Rattle.spoken.specs.declared.Said.{Said}
 use Rattle.spoken.specs.declared.Said.the-variants.{Nothing, Item, Unclear}
-use Rattle.detail.specs.Marks.{entries}
-use Rattle.detail.specs.DetailLaws.{ten-scattered, closed-there, seven-lacks}
+use Rattle.detail.specs.Unfilled.{seven-lacks}
 use Rattle.text.specs.Text.{heard, unclear, opens, some-opens, gathered, text, line-rows, gives-point, point-line, line-refusals, most, text-refusals}
 use Rattle.typed_text.specs.TableLaws.{retell, told-lines, told-unopened, told-records}
 use Rattle.text_detail.specs.Lines.{items, FairlyOpened, Scattered, ScatteredBy}

@@ -18,18 +18,18 @@ use Rattle.run.specs.Run.{reading, group}
 use Rattle.run.specs.Places.{reading-at, places}
 use Rattle.run.specs.Limits.{stroke-calm}
 use Rattle.run.specs.Laws.{StrokeReady, reading-lent}
-use Rattle.records.specs.Record.{Sizes, Entry, its, sizes-of, entries-of, number-at}
+use Rattle.records.specs.Record.{Sizes, Entry, its, sizes-of, entries-of, entries, number-at}
 use Rattle.records.specs.Meaning.{fair, run-of}
 use Rattle.records.specs.Framed.{run-at}
+use Rattle.records.specs.Closed.{clean-fits, closed-there}
 use Rattle.record.specs.declared.Record.{Record}
 use Rattle.record.specs.Kinds.{as-record}
 use Rattle.spoken.specs.Said.{says}
 use Rattle.spoken.specs.declared.Said.{Said}
 use Rattle.spoken.specs.declared.Said.the-variants.{Nothing}
 use Rattle.detail.specs.Detail.{first-lacking, lacking, apart-in}
-use Rattle.detail.specs.Marks.{entries, Marked, LabelOf, Missing, FarApart}
-use Rattle.detail.specs.Marking.{reading-count}
-use Rattle.detail.specs.DetailLaws.{clean-fits, closed-there}
+use Rattle.detail.specs.Marks.{Marked, LabelOf, Missing, FarApart}
+use Rattle.detail.specs.Arrays.{reading-count}
 use Rattle.detail.specs.declared.Detail.{Detail}
 use Rattle.detail.specs.declared.Detail.the-variants as D
 use Rattle.detail.specs.declared.Detail.the-variants.{Apart}

@@ -20,7 +20,7 @@ use Rattle.spoken.specs.Said.{said, nth, odd-word}
 use Rattle.spoken.specs.declared.Said.{Said}
 use Rattle.spoken.specs.declared.Said.the-variants.{Item, Unclear}
 use Rattle.detail.specs.Detail.{lacking}
-use Rattle.detail.specs.DetailLaws.{Gap}
+use Rattle.detail.specs.Unfilled.{Gap}
 use Rattle.detail.specs.declared.Detail.the-variants.{Word, NoWord, Earlier, Apart}
 use Rattle.text.specs.Text.{heard, text, text-refusals}
 use Rattle.text_detail.specs.TextDetail.{nth-line, nth-said, body-detail}

@@ -26,11 +26,13 @@ use Rattle.run.specs.PlaceLaws.{same-self, same-equal}
 use Rattle.run.specs.Limits.{stroke-calm}
 use Rattle.run.specs.Checks.{nine, ten}
 use Rattle.run.specs.declared.Run.{Run}
-use Rattle.records.specs.Record.{Sizes, Entry, Record, opening, entry, close, unknown, cut, surplus, Labelled, at-label, its, unlabelled, sizes-of, entries-of, closed, has, number-at}
+use Rattle.records.specs.Record.{Sizes, Entry, Record, opening, entry, close, unknown, cut, surplus, Labelled, at-label, its, unlabelled, sizes-of, entries-of, entries, closed, has, number-at}
 use Rattle.records.specs.Meaning.{fair, inside, fits, complete, rows-of, run-of, unclosed, last-rows, refusals}
 use Rattle.records.specs.Sound.{clean}
 use Rattle.records.specs.FirstFault.{first-here, fault, fault-or, given-record}
+use Rattle.records.specs.ByNumber.{ten-scattered}
 use Rattle.records.specs.Framed.{at-spot, run-at}
+use Rattle.records.specs.Closed.{closed-there}
 use Rattle.record.specs.declared.Record.the-variants.{Opening, Point, Value, Close}
 use Rattle.intake.specs.Faults.{fault-first}
 use Rattle.spoken.specs.Said.{said, odd-word}
@@ -38,8 +40,9 @@ use Rattle.spoken.specs.OddLaws.{odd-within, said-odd}
 use Rattle.spoken.specs.declared.Said.{Said}
 use Rattle.spoken.specs.declared.Said.the-variants.{Nothing, Item, Unclear}
 use Rattle.detail.specs.Detail.{stands-at, label-at, told-where, lacking, above, below, apart-in, apart-at}
-use Rattle.detail.specs.Marks.{entries}
-use Rattle.detail.specs.DetailLaws.{Again, Unfilled, LieApart, stroke-apart, six-again, seven-lacks, lacking-gap, ten-scattered, closed-there, far-apart}
+use Rattle.detail.specs.Apart.{LieApart, stroke-apart, far-apart}
+use Rattle.detail.specs.Again.{Again, six-again}
+use Rattle.detail.specs.Unfilled.{Unfilled, lacking-gap, seven-lacks}
 use Rattle.detail.specs.declared.Detail.the-variants.{Word, NoWord, Earlier}
 use Rattle.text.specs.Text.{heard, opens, some-opens, opening-at, entry-at, gathered, text, line-rows, gives-point, point-line, line-refusals}
 use Rattle.typed_text.specs.Method.{first-label}

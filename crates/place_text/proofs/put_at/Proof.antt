@@ -1,7 +1,7 @@
 -- `place_text::put_at` meets its contract: the head, what the record is, and what more is told, one behind the other.
 use borrow.Author.Needs.{needs}
 use Rattle.plain.specs.GrownLaws.{put-two, put-is}
-use Rattle.detail.specs.Marking.{blank-marked}
+use Rattle.detail.specs.Arrays.{blank-marked}
 use Rattle.place_text.specs.Lines.{of-record, record-parts}
 use Rattle.place_text.proofs.put_at.Statement.{statement}
 use Rattle.place_text.proofs.put_at.Tie as tie

@@ -2,7 +2,7 @@
 use native.Mathlib.Omega.{arith}
 use borrow.Author.Needs.{needs}
 use Rattle.plain.specs.GrownLaws.{put-two, put-is}
-use Rattle.detail.specs.Marking.{blank-marked}
+use Rattle.detail.specs.Arrays.{blank-marked}
 use Rattle.place_text.specs.Told.{point-within}
 use Rattle.place_text.specs.Lines.{of-point, point-parts}
 use Rattle.place_text.proofs.put_of_point.Statement.{statement}

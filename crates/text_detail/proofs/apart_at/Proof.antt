@@ -1,6 +1,6 @@
 -- `text_detail::apart_at` meets its contract: the readings that the arrays have are those of the text, which are within their limits.
 use borrow.Author.Needs.{needs}
-use Rattle.detail.specs.Marking.{blank-marked}
+use Rattle.detail.specs.Arrays.{blank-marked}
 use Rattle.text_detail.specs.TellLaws.{both-ready, apart-told}
 use Rattle.text_detail.proofs.apart_at.Statement.{statement}
 use Rattle.text_detail.proofs.apart_at.Tie as tie

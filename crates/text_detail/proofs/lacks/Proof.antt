@@ -1,6 +1,6 @@
 -- `text_detail::lacks` meets its contract: the first place without a label, of a run with the sizes that the survey found.
 use borrow.Author.Needs.{needs}
-use Rattle.detail.specs.Marking.{blank-marked}
+use Rattle.detail.specs.Arrays.{blank-marked}
 use Rattle.text_detail.specs.TellLaws.{sizes-most, lacks-told}
 use Rattle.text_detail.proofs.lacks.Statement.{statement}
 use Rattle.text_detail.proofs.lacks.Tie as tie

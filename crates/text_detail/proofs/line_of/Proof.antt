@@ -1,6 +1,6 @@
 -- `text_detail::line_of` meets its contract: the label that the arrays have at the place is that of the text.
 use borrow.Author.Needs.{needs}
-use Rattle.detail.specs.Marking.{blank-marked}
+use Rattle.detail.specs.Arrays.{blank-marked}
 use Rattle.text_detail.specs.TellLaws.{line-told}
 use Rattle.text_detail.proofs.line_of.Statement.{statement}
 use Rattle.text_detail.proofs.line_of.Tie as tie
