@@ -20,6 +20,7 @@ pub record IsCut (A : Cut) : Type 0 where
   pub rises : (t t′ : ℤ) (q q′ : ℕ) → 0 < q → 0 < q′ → (t *ℤ pos q′) ≤ℤ (t′ *ℤ pos q) → A .AtMost t q → A .AtMost t′ q′
   pub between : (s t : ℤ) (p q : ℕ) → 0 < p → 0 < q → A .AtLeast s p → A .AtMost t q → (s *ℤ pos q) ≤ℤ (t *ℤ pos p)
   pub from-zero : (t : ℤ) (q : ℕ) → 0 < q → A .AtMost t q → NonNeg t
+  pub under-zero : (t : ℤ) (q : ℕ) → 0 < q → t ≤ℤ pos 0 → A .AtLeast t q
 
 pub record Rounds (A : Cut) (k : ℕ) : Type 0 where
   pub cut : IsCut A

@@ -1,5 +1,6 @@
 pub mod Exact
 pub mod Reported
+pub mod Enums
 pub mod Figures
 pub mod Demand1
 pub mod Exactly
@@ -10,6 +11,7 @@ pub mod FileLaws
 pub mod Within
 pub mod Demand2Holds
 pub mod Demand3
+pub mod Kept
 pub mod Demand3Holds
 pub mod Certified
 pub mod ReportedLaws

@@ -73,9 +73,11 @@ module _ (e : ℤ) (f : ℕ) (some : 0 < f) where
       sides (inr l) m = inr (inl (weaken l))
 
   pub root-cut : IsCut (root e f)
-  root-cut = record { known = known; rises = rises; between = between; from-zero = λ t q h a. a .0 }
+  root-cut = record { known = known; rises = rises; between = between; from-zero = λ t q h a. a .0; under-zero = λ t q h l. inl l }
 
 -- the limits of a run of two or more cycles are known as cuts, and rounded up
+pub exact-cut : (r : Run) (s i : ℕ) → 2 ≤ r .n → IsCut (exact-limit r s i)
+exact-cut r s i two = root-cut (pos (factor (r .n) * factor (r .n) * r .n) *ℤ bessel r s i) (1000000 * (r .n - 1)) (omega arith)
+
 pub limits-round : (r : Run) {k : ℕ → ℕ → ℕ} → 2 ≤ r .n → LimitsOf r k → (s i : ℕ) → s < 2 → i < r .m → Rounds (exact-limit r s i) (k s i)
-limits-round r two l s i hs hi =
-    record { cut = root-cut (pos (factor (r .n) * factor (r .n) * r .n) *ℤ bessel r s i) (1000000 * (r .n - 1)) (omega arith); up = l s i hs hi }
+limits-round r two l s i hs hi = record { cut = exact-cut r s i two; up = l s i hs hi }

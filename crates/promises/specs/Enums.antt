@@ -1,0 +1,59 @@
+-- What each case of an answer that is an enum is in the paper's table ("What can be answered"), and that it is the answer an index of a run gets. The statement; `EnumLaws` proves it.
+-- `fit` and `pin` answer a line of any points with `Drawn`, and `exact` a part in thousandths of one percent with `Percent`.
+use mathlib.Core.Path.{_≡_}
+use mathlib.Core.Bool.{cond}
+use mathlib.Core.Option.{Option, none, some}
+use Prim.Native.Nat.{ℕ}
+use lib.Dec.{eqb}
+use lib.IntN.{natAbs}
+use Rattle.exact.specs.Value.{nought}
+use Rattle.exact.specs.Rounding.{Told, PercentDue}
+use Rattle.exact.specs.declared.Fraction.{Fraction}
+use Rattle.exact.specs.declared.Percent.{Percent}
+use Rattle.exact.specs.declared.Percent.the-variants.{Thousandths, Untold}
+use Rattle.run.specs.declared.Run.{Run}
+use Rattle.groups.specs.Cut.{LimitsOf}
+use Rattle.fit.specs.Answer.{BestDue, TerminalDue, ShiftedDue}
+use Rattle.fit.specs.declared.Drawn.{Drawn}
+use Rattle.fit.specs.declared.Drawn.the-variants as drawn
+use Rattle.pin.specs.Answer.{ZeroDue, FrontDue}
+use Rattle.bands.specs.Through.{means, strokes, limit-points}
+use Rattle.due.specs.Due.{Due}
+use Rattle.due.specs.declared.Answer.{Answer}
+use Rattle.due.specs.declared.Index.{Index}
+use Rattle.due.specs.declared.Index.the-variants as index
+
+-- ---- a line
+-- a number of the table, and what stands of the width and the line under it
+pub record Lined : Type 0 where
+  pub number : ℕ
+  pub width : Fraction
+  pub slope : Fraction
+  pub offset : Fraction
+
+-- of an answer
+abbrev pub lined : Answer → Lined
+lined a = record { number = a .number; width = a .width; slope = a .slope; offset = a .offset }
+
+-- a line is 11 where its slope is zero, else 0; a width alone is 12. `Improper` has no number: no run has such points, since 3, 5, 9 or 10 refuse it, or 15 for lines through the origin
+abbrev pub as-lined : Drawn → Option Lined
+as-lined (drawn.Line f) = some (record { number = cond (eqb (natAbs (f .slope .num)) 0) 11 0; width = f .width; slope = f .slope; offset = f .offset })
+as-lined (drawn.Several h) = some (record { number = 12; width = h .width; slope = nought; offset = nought })
+as-lined drawn.Improper = none
+
+-- ---- a part in thousandths of one percent
+-- `Untold` has no value: the fraction is negative, over zero, or too large to be told
+abbrev pub as-thousandths : Percent → Option ℕ
+as-thousandths (Thousandths t) = some t
+as-thousandths Untold = none
+
+-- ---- of a run that no check refuses: what the functions answer of its points is what stands under its index
+pub record SameAnswers (r : Run) : Type 0 where
+  pub independent : (d : Drawn) → BestDue (means r) d → (a : Answer) → Due index.Independent r a → as-lined d ≡ some (lined a)
+  pub terminal : (d : Drawn) → TerminalDue (means r) d → (a : Answer) → Due index.Terminal r a → as-lined d ≡ some (lined a)
+  pub shifted : (d : Drawn) → ShiftedDue (means r) d → (a : Answer) → Due index.Shifted r a → as-lined d ≡ some (lined a)
+  pub zero : (d : Drawn) → ZeroDue (means r) d → (a : Answer) → Due index.Zero r a → ¬ (a .number ≡ 15) → as-lined d ≡ some (lined a)
+  pub front : (d : Drawn) → FrontDue (means r) d → (a : Answer) → Due index.Front r a → as-lined d ≡ some (lined a)
+  pub lh : (d : Drawn) → BestDue (strokes r) d → (a : Answer) → Due index.Lh r a → as-lined d ≡ some (lined a)
+  pub lhr : (k : ℕ → ℕ → ℕ) → LimitsOf r k → (d : Drawn) → BestDue (limit-points r k) d → (a : Answer) → Due index.Lhr r a → ¬ (a .number ≡ 13) → as-lined d ≡ some (lined a)
+  pub thousandths : (which : Index) (a : Answer) → Due which r a → (p : Percent) → PercentDue (a .index) p → Told (a .index) → as-thousandths p ≡ some (a .thousandths)
