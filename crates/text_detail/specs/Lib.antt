@@ -2,5 +2,6 @@ pub mod TextDetail
 pub mod OddLaws
 pub mod Lines
 pub mod LineLaws
+pub mod Told
 pub mod NumberLaws
 pub mod TellLaws
