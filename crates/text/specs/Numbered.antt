@@ -9,9 +9,10 @@ use lib.ListN.{getD}
 use Rattle.whole.specs.Flags.{apart}
 use Rattle.table.specs.Table.{Given, given-at, told-or, given}
 use Rattle.table.specs.Rows.{found-if}
+use Rattle.record.specs.declared.Record.the-variants.{Opening, Point, Value, Close}
 use Rattle.spoken.specs.declared.Said.{Said}
-use Rattle.spoken.specs.declared.Said.the-variants.{Nothing}
-use Rattle.text.specs.Text.{unclear, opens, line-rows}
+use Rattle.spoken.specs.declared.Said.the-variants.{Nothing, Item, Unclear}
+use Rattle.text.specs.Text.{unclear, opens, opening-at, gathered, first-label, line-rows}
 
 -- line l of those numbered from k on
 pub record Line (k : ℕ) (hs : List Said) (l : ℕ) (P : Said → Type 0) : Type 0 where
@@ -51,6 +52,19 @@ first-of f t step void k (h ∷ hs) j e = rw (step k h hs) (go (t h) refl j e (f
     go true w j q later = (line-here refl w, omega arith)
     go false w zero q later = absurd (apart (sym q ∙ w))
     go false w (suc i) q later = let r = later i q in (line-later (r .0), omega (arith, r .1))
+
+-- the first that opens
+opening-step : (k : ℕ) (h : Said) (hs : List Said) → first-label (gathered opening-at k (h ∷ hs)) ≡ cond (opens h) k (first-label (gathered opening-at (suc k) hs))
+unfolding gathered
+opening-step k Nothing hs = refl
+opening-step k (Item (Opening m n)) hs = refl
+opening-step k (Item (Point i x)) hs = refl
+opening-step k (Item (Value s c i y)) hs = refl
+opening-step k (Item Close) hs = refl
+opening-step k Unclear hs = refl
+
+pub first-opening : (hs : List Said) → FirstOf opens 1 hs (first-label (gathered opening-at 1 hs))
+first-opening hs = first-of (λ k gs. first-label (gathered opening-at k gs)) opens opening-step refl 1 hs
 
 -- ---- line by line
 -- 42: the line is not understood. 46: it opens, and one opened before it

@@ -63,6 +63,17 @@ module _ (f : ℕ → Said → List Labelled) (P : Said → Record → Type 0) (
           let e : x ≡ at-label k (b .0) = List·Memᴰ·eq-of-singleton (subst (List·Memᴰ x) (b .1) n) in
           line-here (ap (λ (y : Labelled). y .label) e) (subst (P h) (sym (ap (λ (y : Labelled). y .it) e)) (b .2))
 
+  -- what passes over each of them passes over all
+  pub gathered-passed : {A : Type 0} (F : List Labelled → A) → ((k : ℕ) (h : Said) (r : Record) (xs : List Labelled) → P h r → F (at-label k r ∷ xs) ≡ F xs)
+      → (k : ℕ) (hs : List Said) (ys : List Labelled) → F (gathered f k hs ++ ys) ≡ F ys
+  unfolding gathered
+  gathered-passed F pass k [] ys = refl
+  gathered-passed F pass k (h ∷ hs) ys = go (brings k h) (gathered-passed F pass (suc k) hs ys)
+    where
+      go : (f k h ≡ []) ⊎ ((r : Record) × (f k h ≡ at-label k r ∷ []) × P h r) → F (gathered f (suc k) hs ++ ys) ≡ F ys → F ((f k h ++ gathered f (suc k) hs) ++ ys) ≡ F ys
+      go (inl e) later = rw e later
+      go (inr b) later = rw (b .1) (pass k h (b .0) (gathered f (suc k) hs ++ ys) (b .2) ∙ later)
+
 -- ---- the records of a text
 pub not-opening : {z : Sizes} {e : Entry} → opening z ≡ entry e → ⊥
 not-opening q = let w : _≡_ {A = ℕ} 0 1 = cc in omega arith

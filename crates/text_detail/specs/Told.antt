@@ -44,6 +44,14 @@ pub record OfRecords (hs : List Said) (number l : ℕ) : Type 0 where
   pub first : First (refusals (text hs)) (given-at own place)
   pub line-is : cond (of-point own) (point-line 1 hs place) place ≡ l
 
+-- the records are refused with a number, told of a place: of a point, whose line is told of the text, or of a line
+abbrev pub RefusedWith : List Said → (own l : ℕ) → Type 0
+RefusedWith hs own l = (p : ℕ) × First (refusals (text hs)) (given-at own p) × (cond (of-point own) (point-line 1 hs p) p ≡ l)
+
+-- where the number told is known, so is theirs
+pub own-known : {hs : List Said} {number l : ℕ} → OfRecords hs number l → (k : ℕ) → number ≡ 40 + k → RefusedWith hs k l
+own-known {hs} {number} {l} r k e = let own : r .own ≡ k = omega (arith, r .number-is) in subst (λ (j : ℕ). RefusedWith hs j l) own (r .place, r .first, r .line-is)
+
 pub data Told (hs : List Said) (number l : ℕ) : Type 0 where
   by-lines : LineFault false 1 hs number l → Told hs number l
   by-none-open : number ≡ 41 → Told hs number l
@@ -70,15 +78,11 @@ told-by s number l some n q = go (ℕ-discrete (given (line-rows false 1 hs) .nu
     go (no w) = by-lines (line-fault false 1 hs number l some (sym (told-lines hs w) ∙ e))
 
 -- ---- 47, 49 and 50 are told of the records only
-pub told-records-of : (s : List ℕ) (k l : ℕ) → 6 < k → ¬ (k ≡ 8) → given (text-refusals s) ≡ given-at (40 + k) l
-    → let hs = heard s in (p : ℕ) × First (refusals (text hs)) (given-at k p) × (cond (of-point k) (point-line 1 hs p) p ≡ l)
+pub told-records-of : (s : List ℕ) (k l : ℕ) → 6 < k → ¬ (k ≡ 8) → given (text-refusals s) ≡ given-at (40 + k) l → RefusedWith (heard s) k l
 told-records-of s k l high n e = go (told-by s (40 + k) l (λ q. omega arith) (λ q. n (omega arith)) e)
   where
-    go : let hs = heard s in Told hs (40 + k) l → (p : ℕ) × First (refusals (text hs)) (given-at k p) × (cond (of-point k) (point-line 1 hs p) p ≡ l)
+    go : Told (heard s) (40 + k) l → RefusedWith (heard s) k l
     go (by-lines (not-understood q f)) = absurd (omega arith)
     go (by-lines (opens-again q f b)) = absurd (omega arith)
     go (by-none-open q) = absurd (omega arith)
-    go (by-records r) =
-        let hs = heard s in
-        let own : r .own ≡ k = omega (arith, r .number-is) in
-        subst (λ (j : ℕ). (p : ℕ) × First (refusals (text hs)) (given-at j p) × (cond (of-point j) (point-line 1 hs p) p ≡ l)) own (r .place, r .first, r .line-is)
+    go (by-records r) = own-known r k refl

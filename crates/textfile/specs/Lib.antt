@@ -7,4 +7,8 @@ pub mod Witness
 pub mod Written
 pub mod More
 pub mod OddFits
+pub mod OddLine
+pub mod Again
+pub mod Missing
+pub mod TwoApart
 pub mod MoreLaws
