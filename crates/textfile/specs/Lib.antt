@@ -3,6 +3,9 @@ pub mod Numerals
 pub mod LineBack
 pub mod Listed
 pub mod Back
+pub mod Parts
+pub mod Loose
+pub mod TooLong
 pub mod Witness
 pub mod Written
 pub mod More
