@@ -1,5 +1,5 @@
 -- What the number of a refusal tells of a text: 47 that its sizes are fair, 50 that the line named gives the input of a point at which readings lie apart.
-use mathlib.Core.Path.{_≡_, sym, _∙_, ap, subst}
+use mathlib.Core.Path.{_≡_, sym, _∙_, subst}
 use mathlib.Core.List.{List}
 use Prim.Native.Nat.{ℕ}
 use native.Mathlib.Omega.{arith}

@@ -34,24 +34,23 @@ module _ (s : List ℕ) (number l : ℕ) (n : ¬ (number ≡ 48)) (e : given (te
   not-long = both .0
 
 -- ---- the rows that told it
--- line by line nothing is refused, and one line opens; the records are refused with a number of their own, told of a place, which is 40 less
+-- the records are refused with a number, told of a point, and then the line is that of the point, or told of the line
+abbrev pub RefusedWith : List Said → (own l : ℕ) → Type 0
+RefusedWith hs own l = (p : ℕ) × First (refusals (text hs)) (given-at own p) × (cond (of-point own) (point-line 1 hs p) p ≡ l)
+
+-- line by line nothing is refused, one line opens, and the records are refused with 40 less
 pub record OfRecords (hs : List Said) (number l : ℕ) : Type 0 where
   pub clear : given (line-rows false 1 hs) .number ≡ 0
   pub opened : T (some-opens hs)
   pub own : ℕ
-  pub place : ℕ
   pub number-is : number ≡ 40 + own
-  pub first : First (refusals (text hs)) (given-at own place)
-  pub line-is : cond (of-point own) (point-line 1 hs place) place ≡ l
-
--- the records are refused with a number, told of a place: of a point, whose line is told of the text, or of a line
-abbrev pub RefusedWith : List Said → (own l : ℕ) → Type 0
-RefusedWith hs own l = (p : ℕ) × First (refusals (text hs)) (given-at own p) × (cond (of-point own) (point-line 1 hs p) p ≡ l)
+  pub refused : RefusedWith hs own l
 
 -- where the number told is known, so is theirs
 pub own-known : {hs : List Said} {number l : ℕ} → OfRecords hs number l → (k : ℕ) → number ≡ 40 + k → RefusedWith hs k l
-own-known {hs} {number} {l} r k e = let own : r .own ≡ k = omega (arith, r .number-is) in subst (λ (j : ℕ). RefusedWith hs j l) own (r .place, r .first, r .line-is)
+own-known {hs} {number} {l} r k e = let own : r .own ≡ k = omega (arith, r .number-is) in subst (λ (j : ℕ). RefusedWith hs j l) own (r .refused)
 
+-- 42 and 46 are told line by line; 41 where no line opens; the others, and 46 too, of the records
 pub data Told (hs : List Said) (number l : ℕ) : Type 0 where
   by-lines : LineFault false 1 hs number l → Told hs number l
   by-none-open : number ≡ 41 → Told hs number l
@@ -70,7 +69,7 @@ told-by s number l some n q = go (ℕ-discrete (given (line-rows false 1 hs) .nu
     opened c true o =
         let rows = refusals (text hs) in
         let r = retold-from hs (given rows) number l some (sym (told-records hs c (yes-T o)) ∙ e) in
-        by-records (record { clear = c; opened = yes-T o; own = given rows .number; place = given rows .place; number-is = r .0; first = exists rows; line-is = r .1 })
+        by-records (record { clear = c; opened = yes-T o; own = given rows .number; number-is = r .0; refused = (given rows .place, exists rows, r .1) })
     opened c false o = by-none-open (ap (λ (g : Given). g .number) (sym e ∙ told-unopened hs c o))
 
     go : Dec (given (line-rows false 1 hs) .number ≡ 0) → Told hs number l

@@ -24,7 +24,7 @@ use Rattle.text.specs.Text.{heard, opens, text}
 use Rattle.text.specs.Numbered.{line-counted, line-said, FirstOf, first-opening, not-understood, opens-again}
 use Rattle.text.specs.RecordLines.{Gives, entry-line}
 use Rattle.text.specs.RecordOrder.{lower-front}
-use Rattle.text_detail.specs.TextDetail.{nth-said, opening-line, told-before, detail-at, body-detail}
+use Rattle.text_detail.specs.TextDetail.{nth-said, opening-line, told-before, detail-at}
 use Rattle.text_detail.specs.PlaceLines.{first-at, stands-first, giving, gives-giving, giving-gives, first-giving}
 use Rattle.text_detail.specs.Told.{own-known, Told, by-lines, by-none-open, by-records, told-by}
 use Rattle.textfile.specs.More.{Refused, Alike, both-open, same-input, same-reading, ToldFirst}

@@ -9,7 +9,7 @@ use lib.IntN.{ℤ, pos, _-ℤ_}
 use lib.Signed.{leZ}
 use mir.Facts.{yes-and}
 use Rattle.run.specs.Run.{reading}
-use Rattle.run.specs.Places.{Place, input-at, reading-at, within}
+use Rattle.run.specs.Places.{input-at, reading-at, within}
 use Rattle.run.specs.Limits.{stroke-calm}
 use Rattle.run.specs.declared.Run.{Run}
 use Rattle.records.specs.Record.{Labelled, its, sizes-of, entries-of, closed, number-at}
