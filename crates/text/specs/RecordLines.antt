@@ -22,9 +22,13 @@ abbrev pub Gives : Said → Place → ℤ → Type 0
 Gives h (input-at i) v = (x : Input) × (h ≡ Item (Point i x)) × (x .count ≡ v)
 Gives h (reading-at s c i) v = (y : Reading) × (h ≡ Item (Value s c i y)) × (y .count ≡ v)
 
--- a line brings one record at most, which is labelled by its number, and of which P says how the line has it
+-- no record, or one that is labelled k
+abbrev pub OneAt : (k : ℕ) → (Record → Type 0) → List Labelled → Type 0
+OneAt k P xs = (xs ≡ []) ⊎ ((r : Record) × (xs ≡ at-label k r ∷ []) × P r)
+
+-- a line brings one record at most, which is labelled by its number
 abbrev pub Brings : (ℕ → Said → List Labelled) → (Said → Record → Type 0) → Type 0
-Brings f P = (k : ℕ) (h : Said) → (f k h ≡ []) ⊎ ((r : Record) × (f k h ≡ at-label k r ∷ []) × P h r)
+Brings f P = (k : ℕ) (h : Said) → OneAt k (P h) (f k h)
 
 abbrev pub Opens : Said → Record → Type 0
 Opens h r = (z : Sizes) × (r ≡ opening z)
@@ -55,7 +59,7 @@ module _ (f : ℕ → Said → List Labelled) (P : Said → Record → Type 0) (
   gathered-line k [] x m = absurd (List·Memᴰ·not-nil m)
   gathered-line k (h ∷ hs) x m = go (List·Memᴰ·append-cases (f k h) m) (brings k h) (gathered-line (suc k) hs x)
     where
-      go : List·Memᴰ x (f k h) ⊎ List·Memᴰ x (gathered f (suc k) hs) → (f k h ≡ []) ⊎ ((r : Record) × (f k h ≡ at-label k r ∷ []) × P h r)
+      go : List·Memᴰ x (f k h) ⊎ List·Memᴰ x (gathered f (suc k) hs) → OneAt k (P h) (f k h)
           → (List·Memᴰ x (gathered f (suc k) hs) → Line (suc k) hs (x .label) (λ g. P g (x .it))) → Line k (h ∷ hs) (x .label) (λ g. P g (x .it))
       go (inr n) b later = line-later (later n)
       go (inl n) (inl e) later = absurd (List·Memᴰ·not-nil (subst (List·Memᴰ x) e n))
@@ -70,7 +74,7 @@ module _ (f : ℕ → Said → List Labelled) (P : Said → Record → Type 0) (
   gathered-passed F pass k [] ys = refl
   gathered-passed F pass k (h ∷ hs) ys = go (brings k h) (gathered-passed F pass (suc k) hs ys)
     where
-      go : (f k h ≡ []) ⊎ ((r : Record) × (f k h ≡ at-label k r ∷ []) × P h r) → F (gathered f (suc k) hs ++ ys) ≡ F ys → F ((f k h ++ gathered f (suc k) hs) ++ ys) ≡ F ys
+      go : OneAt k (P h) (f k h) → F (gathered f (suc k) hs ++ ys) ≡ F ys → F ((f k h ++ gathered f (suc k) hs) ++ ys) ≡ F ys
       go (inl e) later = rw e later
       go (inr b) later = rw (b .1) (pass k h (b .0) (gathered f (suc k) hs ++ ys) (b .2) ∙ later)
 

@@ -1,13 +1,13 @@
 -- The order of a text's records: entries stand in the order of their lines, and nothing stands behind the close.
 use mathlib.Core.Path.{_≡_, refl, sym, _∙_, subst}
-use mathlib.Core.Logic.{_⊎_, inl, inr, ⊎-elim}
+use mathlib.Core.Logic.{inl, inr, ⊎-elim}
 use mathlib.Core.List.{List, [], _∷_, _++_, List·Memᴰ, List·Memᴰ·head, List·Memᴰ·tail, List·Memᴰ·not-nil, List·Memᴰ·cases-cons, List·Memᴰ·append-cases, Memᴰ·append-right}
 use Prim.Native.Nat.{ℕ, suc, _<_}
 use native.Mathlib.Omega.{arith}
 use Rattle.records.specs.Record.{Sizes, Entry, Record, opening, entry, close, Labelled, at-label}
 use Rattle.spoken.specs.declared.Said.{Said}
 use Rattle.text.specs.Text.{opening-at, entry-at, gathered, text}
-use Rattle.text.specs.RecordLines.{Brings, Opens, Enters, opening-brings, entry-brings, gathered-line, not-opening, opening-open, entry-open, openings, entries, last, opened-by, entered-by, last-close}
+use Rattle.text.specs.RecordLines.{OneAt, Brings, Opens, Enters, opening-brings, entry-brings, gathered-line, not-opening, opening-open, entry-open, openings, entries, last, opened-by, entered-by, last-close}
 
 -- of two records the one in front does not close, and if both are entries it has the lower number
 abbrev InOrder : Labelled → Labelled → Type 0
@@ -26,19 +26,22 @@ ordered-append (x ∷ xs) ys a b r =
 ordered-front : (before : List Labelled) (it : Labelled) (after : List Labelled) → Ordered (before ++ (it ∷ after)) → (x : Labelled) → List·Memᴰ x before → InOrder x it
 ordered-front [] it after o x m = absurd (List·Memᴰ·not-nil m)
 ordered-front (z ∷ before) it after o x m =
-    ⊎-elim (λ (e : x ≡ z). subst (λ (y : Labelled). InOrder y it) (sym e) (o .0 it (Memᴰ·append-right before (List·Memᴰ·head refl)))) (ordered-front before it after (o .1) x) (List·Memᴰ·cases-cons m)
+    ⊎-elim (λ (e : x ≡ z). subst (λ (y : Labelled). InOrder y it) (sym e) (o .0 it (Memᴰ·append-right before (List·Memᴰ·head refl))))
+    (ordered-front before it after (o .1) x)
+    (List·Memᴰ·cases-cons m)
 
 ordered-behind : (before : List Labelled) (it : Labelled) (after : List Labelled) → Ordered (before ++ (it ∷ after)) → (y : Labelled) → List·Memᴰ y after → InOrder it y
 ordered-behind [] it after o y m = o .0 y m
 ordered-behind (z ∷ before) it after o y m = ordered-behind before it after (o .1) y m
 
 -- ---- what is gathered
-gathered-ordered : (f : ℕ → Said → List Labelled) (P : Said → Record → Type 0) → Brings f P → ((h : Said) (x y : Labelled) → P h (x .it) → x .label < y .label → InOrder x y) → (k : ℕ) (hs : List Said) → Ordered (gathered f k hs)
+gathered-ordered : (f : ℕ → Said → List Labelled) (P : Said → Record → Type 0) → Brings f P → ((h : Said) (x y : Labelled) → P h (x .it) → x .label < y .label → InOrder x y)
+    → (k : ℕ) (hs : List Said) → Ordered (gathered f k hs)
 unfolding gathered
 gathered-ordered f P brings r k [] = tt
 gathered-ordered f P brings r k (h ∷ hs) = go (brings k h) (gathered-ordered f P brings r (suc k) hs)
   where
-    go : (f k h ≡ []) ⊎ ((q : Record) × (f k h ≡ at-label k q ∷ []) × P h q) → Ordered (gathered f (suc k) hs) → Ordered (f k h ++ gathered f (suc k) hs)
+    go : OneAt k (P h) (f k h) → Ordered (gathered f (suc k) hs) → Ordered (f k h ++ gathered f (suc k) hs)
     go (inl e) later = rw e later
     go (inr b) later = rw (b .1) ((λ y m. r h (at-label k (b .0)) y (b .2) (omega (arith, gathered-line f P brings (suc k) hs y m .is))), later)
 
