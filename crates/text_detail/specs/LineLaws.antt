@@ -16,6 +16,7 @@ use Rattle.spoken.specs.declared.Said.the-variants.{Nothing, Item, Unclear}
 use Rattle.detail.specs.Detail.{label-at, told-where}
 use Rattle.detail.specs.Marks.{Marked}
 use Rattle.text.specs.Text.{heard, opening-at, entry-at, gathered, text}
+use Rattle.text.specs.RecordLines.{Opens, Enters, opening-brings, entry-brings, gathered-passed}
 use Rattle.text_detail.specs.Lines.{item-at, items}
 
 -- what line k says, counted from 0; nothing where there is none
@@ -35,14 +36,8 @@ items-next k e = rw (e, add-one)
 -- ---- openings and the close are at no place
 module _ (p : Place) where
   label-opened : (k : ℕ) (hs : List Said) (xs : List Labelled) → label-at p (gathered opening-at k hs ++ xs) ≡ label-at p xs
-  unfolding gathered label-at
-  label-opened k [] xs = refl
-  label-opened k (Nothing ∷ hs) xs = label-opened (suc k) hs xs
-  label-opened k (Item (Opening m n) ∷ hs) xs = label-opened (suc k) hs xs
-  label-opened k (Item (Point i x) ∷ hs) xs = label-opened (suc k) hs xs
-  label-opened k (Item (Value s c i y) ∷ hs) xs = label-opened (suc k) hs xs
-  label-opened k (Item Close ∷ hs) xs = label-opened (suc k) hs xs
-  label-opened k (Unclear ∷ hs) xs = label-opened (suc k) hs xs
+  unfolding label-at
+  label-opened = gathered-passed opening-at Opens opening-brings (label-at p) (λ k h r xs o. rw (o .1))
 
   label-items : (l k : ℕ) (hs : List Said) → label-at p (gathered entry-at k hs ++ (at-label l close ∷ [])) ≡ label-at p (items k hs)
   unfolding gathered label-at
@@ -62,14 +57,8 @@ module _ (p : Place) where
 
 -- ---- nor is there a point or a reading among them
 entries-opened : (k : ℕ) (hs : List Said) (xs : List Labelled) → entries (gathered opening-at k hs ++ xs) ≡ entries xs
-unfolding gathered entries-of
-entries-opened k [] xs = refl
-entries-opened k (Nothing ∷ hs) xs = entries-opened (suc k) hs xs
-entries-opened k (Item (Opening m n) ∷ hs) xs = entries-opened (suc k) hs xs
-entries-opened k (Item (Point i x) ∷ hs) xs = entries-opened (suc k) hs xs
-entries-opened k (Item (Value s c i y) ∷ hs) xs = entries-opened (suc k) hs xs
-entries-opened k (Item Close ∷ hs) xs = entries-opened (suc k) hs xs
-entries-opened k (Unclear ∷ hs) xs = entries-opened (suc k) hs xs
+unfolding entries-of
+entries-opened = gathered-passed opening-at Opens opening-brings entries (λ k h r xs o. rw (o .1))
 
 entries-items : (l k : ℕ) (hs : List Said) → entries (gathered entry-at k hs ++ (at-label l close ∷ [])) ≡ entries (items k hs)
 unfolding gathered entries-of
@@ -86,14 +75,8 @@ entries-text hs = sym (entries-items (length hs) 1 hs) ∙ sym (entries-opened 1
 
 -- ---- the sizes are those of the first line that opens
 none-sized : (l k : ℕ) (hs : List Said) → sizes-of (unlabelled (gathered entry-at k hs ++ (at-label l close ∷ []))) ≡ record { m = 0; n = 0 }
-unfolding gathered sizes-of
-none-sized l k [] = refl
-none-sized l k (Nothing ∷ hs) = none-sized l (suc k) hs
-none-sized l k (Item (Opening m n) ∷ hs) = none-sized l (suc k) hs
-none-sized l k (Item (Point i x) ∷ hs) = none-sized l (suc k) hs
-none-sized l k (Item (Value s c i y) ∷ hs) = none-sized l (suc k) hs
-none-sized l k (Item Close ∷ hs) = none-sized l (suc k) hs
-none-sized l k (Unclear ∷ hs) = none-sized l (suc k) hs
+unfolding sizes-of
+none-sized l k hs = gathered-passed entry-at Enters entry-brings (λ xs. sizes-of (unlabelled xs)) (λ k h r xs e. rw (e .1)) k hs (at-label l close ∷ [])
 
 sizes-opened : (k : ℕ) (hs : List Said) (xs : List Labelled) → sizes-of (unlabelled xs) ≡ record { m = 0; n = 0 }
     → sizes-of (unlabelled (gathered opening-at k hs)) ≡ sizes-of (unlabelled (gathered opening-at k hs ++ xs))

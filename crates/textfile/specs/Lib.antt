@@ -3,8 +3,15 @@ pub mod Numerals
 pub mod LineBack
 pub mod Listed
 pub mod Back
+pub mod Parts
+pub mod Loose
+pub mod TooLong
 pub mod Witness
 pub mod Written
 pub mod More
 pub mod OddFits
+pub mod OddLine
+pub mod Again
+pub mod Missing
+pub mod TwoApart
 pub mod MoreLaws

@@ -10,7 +10,8 @@ use Rattle.text.specs.Text.{heard, text}
 use Rattle.words.specs.Words.{lines, words}
 use Rattle.text_detail.specs.TextDetail.{odd, told-before, lies-apart}
 use Rattle.text_detail.specs.Lines.{ScatteredBy}
-use Rattle.text_detail.specs.NumberLaws.{not-long, seven-fair, ten-apart}
+use Rattle.text_detail.specs.Told.{not-long}
+use Rattle.text_detail.specs.NumberLaws.{seven-fair, ten-apart}
 use Rattle.text_detail.specs.TellLaws.{nth-heard, detail-by, detail-none}
 use Rattle.text_detail.proofs.by_number.Statement.{statement}
 use Rattle.text_detail.proofs.by_number.Tie as tie
