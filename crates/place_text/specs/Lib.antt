@@ -1,5 +1,6 @@
 pub mod Place
 pub mod Words
+pub mod Along
 pub mod Walk
 pub mod Told
 pub mod Lines
