@@ -9,3 +9,4 @@ pub mod Meant
 pub mod Offset
 pub mod MoreMeant
 pub mod MeantLaws
+pub mod FirstPart

@@ -16,7 +16,6 @@ use Rattle.records.specs.Meaning.{last-rows}
 use Rattle.records.specs.Sound.{clean}
 use Rattle.records.specs.FirstFault.{FaultAt, in-words}
 use Rattle.format.specs.Format.{up-to-close}
-use Rattle.format.specs.Found.{stands, ends}
 use Rattle.format.specs.Behind.{close-ends, ends-with-bytes}
 use Rattle.record.specs.Kinds.{run-file}
 use Rattle.detail.specs.DetailLaws.{closed-there}
@@ -45,7 +44,7 @@ module _ (s : List ℕ) where
         words = rw (le-leb (length s) p (omega (arith, ends-is)), le-leb (length s) p (omega (arith, ends-is)));
       }
 
-  told-last : (k p : ℕ) → 1 ≤ k → k ≤ 7 → T (clean [] (its low)) → First (last-rows low) (given-at k p) → Beyond s k p
+  pub told-last : (k p : ℕ) → 1 ≤ k → k ≤ 7 → T (clean [] (its low)) → First (last-rows low) (given-at k p) → Beyond s k p
   told-last k p l h c (inl g) = at-the-end k p (g .0) (g .1 .0) c (g .1 .1)
   told-last k p l h c (inr (n, inl g)) = let e = g .0 in absurd (omega arith)
   told-last k p l h c (inr (n, inr (n′, inl g))) = let e = g .0 in absurd (omega arith)

@@ -10,12 +10,11 @@ use lib.ListN.{length, getD}
 use Rattle.whole.specs.Flags.{apart}
 use Rattle.records.specs.Record.{Record, opening, entry, close, unknown, cut, surplus, Labelled}
 use Rattle.format.specs.Format.{up-to-close}
-use Rattle.format.specs.Found.{Standing, stands, ends, strange, standing-at}
+use Rattle.format.specs.Found.{Standing, stands, ends, strange, standing-at, stands-within}
 use Rattle.format.specs.Taken.{real}
 use Rattle.format.specs.Room.{bytes-at}
 use Rattle.format.specs.Met.{met-as, first-met}
 use Rattle.format.specs.Behind.{first-behind, no-earlier, stands-there, next-behind}
-use Rattle.format.specs.Found.{stands-within}
 use Rattle.record.specs.Kinds.{run-file}
 use Rattle.runfile.specs.FirstPart.{decoded-real}
 use Rattle.place_text.specs.Place.{those-before, record-words, standing-words, words-at}
@@ -44,7 +43,7 @@ module _ (s : List ℕ) (front : List Labelled) (x : Labelled) (back : List Labe
   standing-is : x .it ≡ met-as (standing-at run-file (eqb (x .label) 0) s (x .label))
   standing-is = stands-there run-file s true 0 front x back e ∙ ap (λ (b : Bool). met-as (standing-at run-file b s (x .label))) (sym at-start)
 
-  its-words : words-at s (x .label) ≡ met-words (getD s (x .label) 0) (x .it)
+  pub its-words : words-at s (x .label) ≡ met-words (getD s (x .label) 0) (x .it)
   its-words = go (standing-at run-file (eqb (x .label) 0) s (x .label)) refl standing-is
     where
       whole : (r : Record) → real r ≡ true → record-words r ≡ met-words (getD s (x .label) 0) r
