@@ -20,7 +20,7 @@ use Rattle.format.specs.Behind.{close-ends, ends-with-bytes}
 use Rattle.record.specs.Kinds.{run-file}
 use Rattle.detail.specs.DetailLaws.{closed-there}
 use Rattle.place_text.specs.Place.{those-before}
-use Rattle.place_text.specs.Along.{each-before, its-within, all-before, all-before-behind, length-numbered, close-last}
+use Rattle.place_text.specs.Along.{each-before, its-within, all-before, all-before-it, length-numbered, close-last}
 use Rattle.place_text.specs.FirstAt.{first-at}
 use Rattle.place_text.specs.Offset.{begins-there}
 use Rattle.place_text.specs.MoreMeant.{more-of-6-holds, more-of-7-holds, more-of-10-holds}
@@ -66,7 +66,7 @@ of-8-holds s p m =
     let u = eight-behind s p m in
     let l = close-last s (T-yes (u .1)) in
     let behind : l .it .label < p = omega (arith, u .2, close-ends run-file s true 0 (l .front) (l .it) [] (l .all) (ap closes (l .closes-is))) in
-    let all : those-before p (low s .records) ≡ low s .records = all-before-behind s (l .front) (l .it) [] (l .all) refl p behind in
+    let all : those-before p (low s .records) ≡ low s .records = all-before-it s l p behind in
     record {
       told = refl;
       counted = ap suc (length-numbered 1 (those-before p (low s .records)) ∙ ap (λ (l : List Labelled). length l) all);
