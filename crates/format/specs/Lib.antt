@@ -8,3 +8,7 @@ pub mod Early
 pub mod UpTo
 pub mod Settled
 pub mod FirstPart
+pub mod Met
+pub mod Behind
+pub mod Kept
+pub mod Room

@@ -1,5 +1,12 @@
 pub mod Place
 pub mod Words
+pub mod Along
+pub mod FirstAt
 pub mod Walk
 pub mod Told
 pub mod Lines
+pub mod Meant
+pub mod Offset
+pub mod MoreMeant
+pub mod MeantLaws
+pub mod FirstPart

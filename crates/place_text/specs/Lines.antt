@@ -19,7 +19,8 @@ use Rattle.detail.specs.declared.Detail.{Detail}
 use Rattle.place_text.specs.Place.{place-words, told-of, detail-of, accepted-line, place-lines, place-of}
 use Rattle.place_text.specs.Words.{head, led, what-words, told-at, told-of-point}
 use Rattle.place_text.specs.Walk.{Numbered}
-use Rattle.place_text.specs.Told.{Means, OfRecord, OfPoint, all-before, point-within}
+use Rattle.place_text.specs.Along.{all-before}
+use Rattle.place_text.specs.Told.{Means, OfRecord, OfPoint, point-within}
 
 -- ---- all of it
 pub lines-refused : (s : List ℕ) (k p : ℕ) → (k ≡ 0 → ⊥) → Means s k p

@@ -22,9 +22,9 @@ use Rattle.sentences.specs.Sentences.{record-name, not-name, detail-line}
 
 -- ---- the records of a file, numbered
 -- those that stand before an offset
-unfoldable pub before : (offset : ℕ) → List Labelled → List Labelled
-before p [] = []
-before p (x ∷ xs) = cond (ltb (x .label) p) (x ∷ before p xs) []
+unfoldable pub those-before : (offset : ℕ) → List Labelled → List Labelled
+those-before p [] = []
+those-before p (x ∷ xs) = cond (ltb (x .label) p) (x ∷ those-before p xs) []
 
 -- each with its number in the place of its offset
 unfoldable pub numbered : (k : ℕ) → List Labelled → List Labelled
@@ -33,7 +33,7 @@ numbered k (x ∷ xs) = at-label k (x .it) ∷ numbered (suc k) xs
 
 -- the records of a file up to its close that stand before an offset, numbered from 1
 abbrev pub passed-over : List ℕ → (offset : ℕ) → List Labelled
-passed-over s p = numbered 1 (before p (up-to-close run-file s .records))
+passed-over s p = numbered 1 (those-before p (up-to-close run-file s .records))
 
 -- all of them
 abbrev pub all-numbered : List ℕ → List Labelled

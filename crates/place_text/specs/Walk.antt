@@ -20,7 +20,7 @@ use Rattle.detail.specs.Marks.{Marked, Marking, LabelOf}
 use Rattle.detail.specs.Marking.{marking-none}
 use Rattle.detail.specs.declared.Detail.{Detail}
 use Rattle.detail.specs.declared.Detail.the-variants.{Nothing, Earlier}
-use Rattle.place_text.specs.Place.{before, numbered, passed-over, first-told}
+use Rattle.place_text.specs.Place.{those-before, numbered, passed-over, first-told}
 use Rattle.place_text.specs.declared.Step.{Step}
 
 -- ---- what is kept
@@ -37,7 +37,7 @@ pub record Passed (s : List ℕ) (k at : ℕ) (labels : List ℕ) (y : List ℤ)
   pub new : List Labelled
   pub marked : (xs : List Labelled) → Marked xs labels y → Marked (xs ++ new) labels′ y′
   pub counted : t .k ≡ k + length new
-  pub goes-on : (limit : ℕ) → at < limit → numbered k (before limit (from run-file (eqb at 0) s at .records)) ≡ new ++ numbered (t .k) (before limit (left-of s t))
+  pub goes-on : (limit : ℕ) → at < limit → numbered k (those-before limit (from run-file (eqb at 0) s at .records)) ≡ new ++ numbered (t .k) (those-before limit (left-of s t))
   pub further : 0 < t .more → (at < t .at) × (t .at ≤ length s) × (t .k ≤ t .at)
 
 -- the records met so far, and that the others are those left
@@ -45,7 +45,7 @@ pub record Walked (s : List ℕ) (limit : ℕ) (labels : List ℕ) (y : List ℤ
   pub done : List Labelled
   pub marked : Marked done labels y
   pub counted : t .k ≡ suc (length done)
-  pub all : passed-over s limit ≡ done ++ numbered (t .k) (before limit (left-of s t))
+  pub all : passed-over s limit ≡ done ++ numbered (t .k) (those-before limit (left-of s t))
   pub room : 0 < t .more → (t .at ≤ length s) × (t .k ≤ most (t .at))
 
 -- what the walk comes to
@@ -104,12 +104,12 @@ module _ (s : List ℕ) (k at : ℕ) where
   from-is st e = met-at run-file (eqb at 0) s at ∙ ap (met run-file s at) e
 
   -- the record met at the place, in front of others
-  first-numbered : (limit : ℕ) → at < limit → (r : Record) (xs : List Labelled) → numbered k (before limit (at-label at r ∷ xs)) ≡ at-label k r ∷ numbered (k + 1) (before limit xs)
-  unfolding before numbered
+  first-numbered : (limit : ℕ) → at < limit → (r : Record) (xs : List Labelled) → numbered k (those-before limit (at-label at r ∷ xs)) ≡ at-label k r ∷ numbered (k + 1) (those-before limit xs)
+  unfolding those-before numbered
   first-numbered limit h r xs = rw (lt-ltb at limit h, add-one)
 
-  none-left : (limit j : ℕ) → numbered j (before limit []) ≡ []
-  unfolding before numbered
+  none-left : (limit j : ℕ) → numbered j (those-before limit []) ≡ []
+  unfolding those-before numbered
   none-left limit j = refl
 
   -- one record is met, and nothing is left
@@ -120,7 +120,7 @@ module _ (s : List ℕ) (k at : ℕ) where
     marked = λ xs pic. m .is xs pic;
     counted = one;
     goes-on = λ limit h.
-        ap (λ (l : List Labelled). numbered k (before limit l)) q
+        ap (λ (l : List Labelled). numbered k (those-before limit l)) q
         ∙ first-numbered limit h r []
         ∙ ap (λ (l : List Labelled). at-label k r ∷ l) (none-left limit (k + 1) ∙ sym (rw over (none-left limit (t .k))));
     further = λ w. absurd (omega (arith, over));
@@ -138,9 +138,9 @@ module _ (s : List ℕ) (k at : ℕ) where
       marked = λ xs pic. m .is xs pic;
       counted = refl;
       goes-on = λ limit h.
-          ap (λ (l : List Labelled). numbered k (before limit l)) (ap (λ (t : Recorded). t .records) (from-is (stands r end) st) ∙ rw c)
+          ap (λ (l : List Labelled). numbered k (those-before limit l)) (ap (λ (t : Recorded). t .records) (from-is (stands r end) st) ∙ rw c)
           ∙ first-numbered limit h r (from run-file false s end .records)
-          ∙ ap (λ (b : Bool). at-label k r ∷ numbered (k + 1) (before limit (from run-file b s end .records))) (sym later);
+          ∙ ap (λ (b : Bool). at-label k r ∷ numbered (k + 1) (those-before limit (from run-file b s end .records))) (sym later);
       further = λ w. (within .0, within .1, higher (eqb at 0) refl room st);
     }
       where
@@ -176,7 +176,7 @@ module _ (s : List ℕ) (k at : ℕ) where
               marked = λ xs pic. subst (λ (l : List Labelled). Marked l labels y) (sym (append-nil xs)) pic;
               counted = refl;
               goes-on = λ limit h.
-                  ap (λ (l : List Labelled). numbered k (before limit l)) (ap (λ (t : Recorded). t .records) (from-is ends q) ∙ rw short)
+                  ap (λ (l : List Labelled). numbered k (those-before limit l)) (ap (λ (t : Recorded). t .records) (from-is ends q) ∙ rw short)
                   ∙ none-left limit k
                   ∙ sym (none-left limit (k + 0));
               further = λ w. absurd (omega arith);
@@ -184,32 +184,32 @@ module _ (s : List ℕ) (k at : ℕ) where
 
 -- ---- what is met at a place stands there: before no limit that is not above it
 module _ (s : List ℕ) (limit at : ℕ) (h : limit ≤ at) where
-  none-met : (st : Standing) → before limit (met run-file s at st .records) ≡ []
-  unfolding before
+  none-met : (st : Standing) → those-before limit (met run-file s at st .records) ≡ []
+  unfolding those-before
   none-met (stands r end) = go (closes r)
     where
-      go : (b : Bool) → before limit (cond b (alone (at-label at r) end) (in-front (at-label at r) (from run-file false s end)) .records) ≡ []
+      go : (b : Bool) → those-before limit (cond b (alone (at-label at r) end) (in-front (at-label at r) (from run-file false s end)) .records) ≡ []
       go true = rw (le-ltb at limit h)
       go false = rw (le-ltb at limit h)
   none-met ends = go (leb (length s) at)
     where
-      go : (b : Bool) → before limit (cond b (record { records = []; end = at }) (alone (at-label at cut) at) .records) ≡ []
+      go : (b : Bool) → those-before limit (cond b (record { records = []; end = at }) (alone (at-label at cut) at) .records) ≡ []
       go true = refl
       go false = rw (le-ltb at limit h)
   none-met strange = rw (le-ltb at limit h)
 
-  none-from : (first : Bool) → before limit (from run-file first s at .records) ≡ []
-  none-from first = ap (λ (c : Recorded). before limit (c .records)) (met-at run-file first s at) ∙ none-met (standing-at run-file first s at)
+  none-from : (first : Bool) → those-before limit (from run-file first s at .records) ≡ []
+  none-from first = ap (λ (c : Recorded). those-before limit (c .records)) (met-at run-file first s at) ∙ none-met (standing-at run-file first s at)
 
-nothing-before : (s : List ℕ) (limit : ℕ) (t : Step) → (0 < t .more → t .at < limit → ⊥) → before limit (left-of s t) ≡ []
-unfolding before
+nothing-before : (s : List ℕ) (limit : ℕ) (t : Step) → (0 < t .more → t .at < limit → ⊥) → those-before limit (left-of s t) ≡ []
+unfolding those-before
 nothing-before s limit t over = go (eqb (t .more) 0) refl
   where
     beyond : 0 < t .more → (b : Bool) → ltb (t .at) limit ≡ b → limit ≤ t .at
     beyond m true e = absurd (over m (ltb-true (t .at) limit e))
     beyond m false e = ltb-false (t .at) limit e
 
-    go : (b : Bool) → eqb (t .more) 0 ≡ b → before limit (cond b [] (from run-file (eqb (t .at) 0) s (t .at) .records)) ≡ []
+    go : (b : Bool) → eqb (t .more) 0 ≡ b → those-before limit (cond b [] (from run-file (eqb (t .at) 0) s (t .at) .records)) ≡ []
     go true e = refl
     go false e = let n = eqb-false (t .more) 0 e in none-from s limit (t .at) (beyond (omega (arith, n)) (ltb (t .at) limit) refl) (eqb (t .at) 0)
 
@@ -251,9 +251,9 @@ module _ {s : List ℕ} {limit : ℕ} {labels : List ℕ} {y : List ℤ} {t : St
       marked = p .marked (w .done) (w .marked);
       counted = p .counted ∙ omega (arith, w .counted, length-append (w .done) (p .new));
       all = w .all
-          ∙ ap (λ (l : List Labelled). w .done ++ numbered (t .k) (before limit l)) (left-is t more)
+          ∙ ap (λ (l : List Labelled). w .done ++ numbered (t .k) (those-before limit l)) (left-is t more)
           ∙ ap (λ (l : List Labelled). w .done ++ l) (p .goes-on limit near)
-          ∙ sym (append-assoc (w .done) (p .new) (numbered (u .k) (before limit (left-of s u))));
+          ∙ sym (append-assoc (w .done) (p .new) (numbered (u .k) (those-before limit (left-of s u))));
       room = λ h. let f = p .further h in (f .1, rw (ne-eqb (u .at) 0 (λ e. omega (arith, f .0))) (f .2));
     }
 

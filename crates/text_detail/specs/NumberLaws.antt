@@ -10,7 +10,9 @@ use Rattle.records.specs.Record.{its, sizes-of}
 use Rattle.record.specs.declared.Record.the-variants.{Point}
 use Rattle.spoken.specs.declared.Said.{Said}
 use Rattle.spoken.specs.declared.Said.the-variants.{Item}
-use Rattle.detail.specs.DetailLaws.{ten-scattered, closed-there, seven-lacks}
+use Rattle.records.specs.ByNumber.{ten-scattered}
+use Rattle.records.specs.Closed.{closed-there}
+use Rattle.detail.specs.Unfilled.{seven-lacks}
 use Rattle.text.specs.Text.{heard, text, point-line, text-refusals}
 use Rattle.text_detail.specs.TextDetail.{nth-said}
 use Rattle.text_detail.specs.Lines.{FairlyOpened, Scattered, ScatteredBy}

@@ -14,7 +14,7 @@ use Rattle.record.specs.declared.Record.the-variants.{Opening, Point, Value, Cl
 use Rattle.spoken.specs.declared.Said.{Said}
 use Rattle.spoken.specs.declared.Said.the-variants.{Nothing, Item, Unclear}
 use Rattle.detail.specs.Detail.{stands-at, label-at}
-use Rattle.detail.specs.Marks.{entries}
+use Rattle.records.specs.Record.{entries}
 use Rattle.text.specs.Text.{gathered, text, gives-point, point-line}
 use Rattle.text.specs.Numbered.{Line, line-said, FirstOf, first-of}
 use Rattle.text.specs.RecordLines.{Gives, entry-line}

@@ -18,7 +18,7 @@ use Rattle.record.specs.declared.Record.the-variants.{Opening, Point, Value, Cl
 use Rattle.spoken.specs.declared.Said.{Said}
 use Rattle.spoken.specs.declared.Said.the-variants.{Nothing, Item, Unclear}
 use Rattle.detail.specs.Detail.{label-at, told-where}
-use Rattle.detail.specs.DetailLaws.{Again, six-again}
+use Rattle.detail.specs.Again.{Again, six-again}
 use Rattle.detail.specs.declared.Detail.the-variants.{Earlier}
 use Rattle.text.specs.Text.{heard, opens, text}
 use Rattle.text.specs.Numbered.{line-counted, line-said, FirstOf, first-opening, not-understood, opens-again}

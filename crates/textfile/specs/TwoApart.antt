@@ -18,7 +18,9 @@ use Rattle.records.specs.Sound.{clean}
 use Rattle.records.specs.Framed.{run-at}
 use Rattle.spoken.specs.declared.Said.{Said}
 use Rattle.detail.specs.Detail.{label-at, above, below, apart-in, apart-at}
-use Rattle.detail.specs.DetailLaws.{LieApart, stroke-apart, ten-scattered, closed-there, far-apart}
+use Rattle.detail.specs.Apart.{LieApart, stroke-apart, far-apart}
+use Rattle.records.specs.ByNumber.{ten-scattered}
+use Rattle.records.specs.Closed.{closed-there}
 use Rattle.text.specs.Text.{heard, text, point-line}
 use Rattle.text.specs.Numbered.{Line, line-counted, line-said}
 use Rattle.text.specs.RecordLines.{Gives}
