@@ -11,7 +11,6 @@ use Rattle.due.specs.Due.{Due}
 use Rattle.due.specs.declared.Answer.{Answer}
 use Rattle.due.specs.declared.Index.the-variants as index
 use Rattle.promises.specs.Exact.{Keeps, KeepsCloser}
-use Rattle.promises.specs.Reported.{Reports}
 use Rattle.promises.specs.Rounded.{lost, kept-closer, some-reported}
 use Rattle.promises.specs.Kept.{some-kept, known}
 use Rattle.promises.specs.Demand3.{Uncertain, Demand3}

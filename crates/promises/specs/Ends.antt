@@ -7,12 +7,10 @@ use native.Mathlib.Omega.{arith}
 use lib.IntN.{ℤ, natAbs, negℤ}
 use Rattle.run.specs.Checked.{Checked}
 use Rattle.run.specs.declared.Run.{Run}
-use Rattle.band.specs.Line.{Line, Points, Proper, off, Parallel, Same, Terminal}
-use Rattle.band.specs.Same.{same-sym}
+use Rattle.band.specs.Line.{Line, Points, Proper, off, Parallel, Terminal}
 use Rattle.band.specs.Largest.{largest-by}
-use Rattle.band.specs.Terminal.{terminal-line, terminal-some, terminal, terminal-same}
+use Rattle.band.specs.Terminal.{terminal-line, terminal-some, terminal}
 use Rattle.band.specs.Shift.{Range, moved, moved-some, moved-parallel, moved-within, moved-least, moved-single, shift-wide, shift-part}
-use Rattle.fit.specs.Scaled.{least-family, single-family, parallel-same}
 use Rattle.bands.specs.Through.{means}
 use Rattle.due.specs.Due.{Best, Fits}
 use Rattle.bands.specs.Admitted.{proper-means}

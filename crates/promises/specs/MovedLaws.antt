@@ -1,21 +1,20 @@
 -- The shifted line that an answer reports is the terminal line moved.
-use mathlib.Core.Path.{_≡_, sym, ap, _∙_, subst}
+use mathlib.Core.Path.{_≡_, ap, _∙_}
 use mathlib.Core.List.{_∷_, []}
 use Prim.Native.Nat.{ℕ, _*_, _<_}
 use native.Mathlib.Omega.{arith}
-use lib.IntN.{ℤ, pos, natAbs, _+ℤ_, _-ℤ_, _*ℤ_}
+use lib.IntN.{ℤ, pos, _*ℤ_}
 use Rattle.whole.specs.Poly.{var, lit, _⊗_}
 use Rattle.whole.specs.Ring.{ring}
 use Rattle.whole.specs.Sign.{positive-nat}
-use Rattle.exact.specs.Value.{Worth, Made}
+use Rattle.exact.specs.Value.{Made}
 use Rattle.exact.specs.declared.Fraction.{Fraction}
 use Rattle.run.specs.Checks.{verdict}
 use Rattle.run.specs.Checked.{Checked, checked}
 use Rattle.run.specs.declared.Run.{Run}
-use Rattle.band.specs.Line.{Line, Same}
+use Rattle.band.specs.Line.{Line}
 use Rattle.band.specs.Same.{through}
 use Rattle.band.specs.Shift.{wide-is, shift-wide}
-use Rattle.bands.specs.Through.{means}
 use Rattle.bands.specs.Admitted.{proper-means}
 use Rattle.due.specs.Due.{Fits, Stands, Due}
 use Rattle.due.specs.OneFit.{fits-once}
