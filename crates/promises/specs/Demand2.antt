@@ -132,6 +132,8 @@ pub record Standard (r : Run) : Type 0 where
   -- written and read back it is the same run, with zeros beyond m and n
   pub back : (buffer : List ℕ) → length (file r) ≤ length buffer → WrittenBack r buffer
   pub same : TrimmedOf r (trimmed r)
+  -- its file is a byte string, so that what follows speaks of it
+  pub bytes : Bytes (file r)
 
 pub record Demand2 : Type 0 where
   pub run : (r : Run) → verdict r .number ≡ 0 → Standard r

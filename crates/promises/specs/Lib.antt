@@ -8,6 +8,7 @@ pub mod Demand1Holds
 pub mod Demand2
 pub mod MovedLaws
 pub mod FileLaws
+pub mod FileBytes
 pub mod Within
 pub mod Demand2Holds
 pub mod Demand3
