@@ -8,6 +8,11 @@ pub mod Demand1Holds
 pub mod Demand2
 pub mod MovedLaws
 pub mod FileLaws
+pub mod SameVerdict
+pub mod SameSums
+pub mod SameAnswer
+pub mod SameAverages
+pub mod SameFile
 pub mod Within
 pub mod Demand2Holds
 pub mod Demand3
