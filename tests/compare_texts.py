@@ -6,6 +6,7 @@ import make_files
 import make_sheets
 import make_texts
 import worked_runs
+import wrong_places
 import wrong_texts
 from compare_sheets import counts_text, named_files
 from braille import CELLS, cells
@@ -326,6 +327,7 @@ def compare(run):
     typed, listed, placed = met(cases, made)
     wrong += missing(typed, listed, placed)
     more, told = wrong_texts.told_apart(made.texts)
+    more_places, told_places = wrong_places.told_apart(made.files)
     first = ['texts: %d texts and %d files, %d listings typed again, %d typed texts listed, %d texts and %d files by the programs themselves' % (len(made.texts), len(made.files), back, forth, len(texts), len(files))]
     first += ['texts met: ' + counts_text(typed), 'listings met: ' + counts_text(listed), 'places met: ' + counts_text(placed)]
-    return len(cases) + back + forth + len(texts) + 2 * len(files), wrong + more, first + told
+    return len(cases) + back + forth + len(texts) + 2 * len(files), wrong + more + more_places, first + told + told_places

@@ -2,12 +2,12 @@
 use mathlib.Core.Path.{_≡_, refl, sym, ap, ap₂, _∙_, subst}
 use mathlib.Core.Logic.{_⊎_, inl, inr}
 use mathlib.Core.List.{List, [], _∷_}
-use Prim.Native.Nat.{ℕ, _<_, _≤_}
+use Prim.Native.Nat.{ℕ, _<_}
 use native.Mathlib.Omega.{arith}
 use lib.IntN.{pos, ℤ-discrete}
 use Rattle.exact.specs.Value.{Made}
 use Rattle.table.specs.Table as table
-use Rattle.table.specs.Table.{given-at, Condition, Quiet, conditions, FirstOf, All, Other}
+use Rattle.table.specs.Table.{given-at, Condition, Quiet, conditions, FirstOf, All}
 use Rattle.table.specs.Conditions.{behind, in-front, parted}
 use Rattle.table.specs.Laws.{exists, first-given, others, silent-quiet, zero-exactly}
 use Rattle.run.specs.Checks.{checks, verdict}

@@ -1,27 +1,17 @@
 -- Only one answer is due for an index of a run.
 use mathlib.Core.Path.{_≡_, sym, ap, _∙_, subst}
-use mathlib.Core.List.{_∷_, []}
 use Prim.Native.Nat.{ℕ, _*_, _<_}
-use native.Mathlib.Nat.{le-antisymm}
 use native.Mathlib.Omega.{arith}
-use lib.IntN.{ℤ, pos, natAbs, _*ℤ_, ℤ-discrete}
-use Rattle.whole.specs.Poly.{var, lit, _⊗_}
-use Rattle.whole.specs.Ring.{ring}
-use Rattle.whole.specs.Sign.{positive-nat, cancel-zero}
+use lib.IntN.{pos, natAbs, ℤ-discrete}
 use Rattle.whole.specs.Size.{size-product}
 use Rattle.exact.specs.Rounding.{Nearest}
 use Rattle.exact.specs.Once.{one-nearest}
 use Rattle.exact.specs.declared.Fraction.{Fraction}
 use Rattle.run.specs.Checked.{Checked, checked}
 use Rattle.run.specs.declared.Run.{Run}
-use Rattle.band.specs.Line.{Line, Points, Same}
-use Rattle.band.specs.Same.{same-sym, exclusive, width-same}
-use Rattle.band.specs.Largest.{largest-same}
-use Rattle.band.specs.Terminal.{terminal-line, terminal-some, terminal, terminal-same}
-use Rattle.fit.specs.Scaled.{within-alike, several-alike}
-use Rattle.fit.specs.Once.{made-once, same-largest}
-use Rattle.bands.specs.Through.{means, LargestOf}
-use Rattle.bands.specs.Admitted.{proper-means}
+use Rattle.band.specs.Line.{Line}
+use Rattle.band.specs.Same.{same-sym}
+use Rattle.fit.specs.Once.{made-once}
 use Rattle.due.specs.Due.{only-width, span, Stands, Due}
 use Rattle.due.specs.OneFit.{OneFit, fits-once, zero-slope, not-both, several-once}
 use Rattle.due.specs.Cases.{Counted, Given, several, one-line, Case, no-run, below-zero, one-cycle, given, due-case}

@@ -1,7 +1,7 @@
 -- An index of a run has one line and one width, or several lines that reach one width, and never both.
-use mathlib.Core.Path.{_≡_, sym, ap, _∙_, subst}
+use mathlib.Core.Path.{_≡_, sym, ap, _∙_}
 use mathlib.Core.List.{_∷_, []}
-use Prim.Native.Nat.{ℕ, _*_, _<_}
+use Prim.Native.Nat.{ℕ, _*_}
 use native.Mathlib.Nat.{le-antisymm}
 use native.Mathlib.Omega.{arith}
 use lib.IntN.{ℤ, pos, _*ℤ_}
@@ -12,13 +12,13 @@ use Rattle.run.specs.Checked.{Checked}
 use Rattle.run.specs.declared.Run.{Run}
 use Rattle.groups.specs.Cut.{WithLimits}
 use Rattle.groups.specs.Rounded.{limits-agree}
-use Rattle.band.specs.Line.{Line, Points, All, Same}
+use Rattle.band.specs.Line.{Line, Points, Same}
 use Rattle.band.specs.Same.{exclusive, width-same}
 use Rattle.band.specs.Largest.{largest-same}
 use Rattle.band.specs.Terminal.{terminal-same}
 use Rattle.fit.specs.Scaled.{within-alike, several-alike}
 use Rattle.fit.specs.Once.{same-largest}
-use Rattle.bands.specs.Through.{limit-points, LargestOf, scatter}
+use Rattle.bands.specs.Through.{LargestOf, scatter}
 use Rattle.bands.specs.Limited.{same-limit-points, same-scatter, largest-agree}
 use Rattle.bands.specs.Admitted.{proper-means}
 use Rattle.due.specs.Due.{Best, Independent, Shifted, Fits, Many, SeveralFit}

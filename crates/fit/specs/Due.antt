@@ -9,14 +9,12 @@ use Rattle.whole.specs.Poly.{var, lit, _⊕_, _⊖_, _⊗_}
 use Rattle.whole.specs.Ring.{ring}
 use Rattle.whole.specs.Sign.{weaken, nat-nonneg, nat-positive}
 use Rattle.whole.specs.Size.{size-product}
-use Rattle.band.specs.Line.{Line, Points, OneValue, Parallel, Same, Terminal, Largest}
-use Rattle.band.specs.Same.{same-sym}
-use Rattle.band.specs.Terminal.{terminal-same}
+use Rattle.band.specs.Line.{Line, Points, OneValue, Parallel, Same, Largest}
 use Rattle.band.specs.Shift.{Range, moved, moved-some, moved-within, moved-least, moved-single, shift-wide, shift-part}
 use Rattle.band.specs.Band.{Admitted}
-use Rattle.fit.specs.Answer.{line-of, TheLine, TheTerminal, TheShifted}
+use Rattle.fit.specs.Answer.{line-of, TheTerminal, TheShifted}
 use Rattle.fit.specs.Parts.{FitParts}
-use Rattle.fit.specs.Scaled.{Alike, least-family, single-family, parallel-same, unit-most, the-line}
+use Rattle.fit.specs.Scaled.{Alike, unit-most, the-line}
 use Rattle.whole.specs.Greater.{greater}
 use Rattle.fit.specs.Ends.{EndsOf, Ranged, Ready}
 use Rattle.fit.specs.EndsLine.{Has, has-terminal, has-range, has-largest}

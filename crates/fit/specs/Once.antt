@@ -11,7 +11,7 @@ use Rattle.band.specs.Line.{Line, Points, Proper, OneValue, Parallel, Largest, 
 use Rattle.band.specs.Same.{through, same-sym, same-within, exclusive, width-same}
 use Rattle.band.specs.Largest.{largest-same}
 use Rattle.band.specs.Least.{least, all-single}
-use Rattle.band.specs.Terminal.{terminal-line, terminal-some, terminal, terminal-same}
+use Rattle.band.specs.Terminal.{terminal, terminal-same}
 use Rattle.band.specs.Shift.{Range, moved, moved-parallel, moved-within, moved-least, moved-single, shift-wide, shift-part}
 use Rattle.fit.specs.Answer.{Told, line-of, TheLine, OnlyWidth, BestDue, TerminalDue, TheShifted, ShiftedDue}
 use Rattle.fit.specs.Scaled.{within-alike, several-alike, parallel-same, least-family, single-family}

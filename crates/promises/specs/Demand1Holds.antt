@@ -1,15 +1,12 @@
 -- Demand 1 holds.
 use mathlib.Core.Path.{_≡_, refl, sym, ap, _∙_, subst}
 use mathlib.Core.List.{List, [], _∷_, _++_}
-use mathlib.Core.Logic.{_⊎_, inl, inr, _↔_}
+use mathlib.Core.Logic.{inl, inr}
 use Prim.Native.Nat.{ℕ, _<_, _≤_}
 use native.Mathlib.Decide.{decLt}
 use native.Mathlib.Omega.{arith}
-use lib.Dec.{T}
 use lib.ListN.{length, drop}
-use Rattle.exact.specs.Value.{nought}
 use Rattle.plain.specs.declared.Printed.{Printed}
-use Rattle.run.specs.Run.{zeros}
 use Rattle.run.specs.Checks as C
 use Rattle.run.specs.Checks.{verdict}
 use Rattle.run.specs.Checked.{verdict-ind, verdict-most}
@@ -17,25 +14,21 @@ use Rattle.run.specs.declared.Run.{Run}
 use Rattle.table.specs.Table as table
 use Rattle.table.specs.Table.{given-at}
 use Rattle.table.specs.Laws.{exists, first-given, first-exactly}
-use Rattle.records.specs.Record.{its}
-use Rattle.records.specs.Meaning.{last-rows, refusals}
-use Rattle.records.specs.Sound.{clean}
-use Rattle.records.specs.FirstFault.{FaultAt, in-words}
+use Rattle.records.specs.Meaning.{refusals}
+use Rattle.records.specs.FirstFault.{in-words}
 use Rattle.format.specs.Format as F
 use Rattle.format.specs.UpTo as U
 use Rattle.record.specs.Kinds.{run-file}
 use Rattle.reader.specs.Meaning as M
-use Rattle.reader.specs.Meaning.{meaning, FileDue, CloseDue}
+use Rattle.reader.specs.Meaning.{meaning}
 use Rattle.reader.specs.Once.{meaning-due, one-meaning, close-due, one-close}
-use Rattle.writer.specs.File.{written, buffer-after}
-use Rattle.averages.specs.Averages.{AveragesDue}
 use Rattle.averages.specs.Once.{one-averages}
 use Rattle.due.specs.Due.{refused, only-width}
 use Rattle.due.specs.Cases.{several, one-line, Case, no-run, below-zero, one-cycle, given, due-case}
 use Rattle.due.specs.Once.{one-answer}
 use Rattle.due.specs.declared.Answer.{Answer}
 use Rattle.due.specs.declared.Index.{Index}
-use Rattle.sheet_text.specs.Sheet.{SheetDue, PrintDue, fits, short}
+use Rattle.sheet_text.specs.Sheet.{PrintDue, fits, short}
 use Rattle.sheet_text.specs.Once.{one-sheet, one-print}
 use Rattle.promises.specs.Exists.{some-answer}
 use Rattle.promises.specs.Sheets.{some-averages, some-sheet}

@@ -1,15 +1,10 @@
 -- Demand 2 holds.
-use mathlib.Core.Path.{_≡_, refl, sym, ap, _∙_, subst}
-use mathlib.Core.List.{List, _++_}
-use mathlib.Core.Logic.{_⊎_}
+use mathlib.Core.Path.{_≡_, refl, sym, ap, _∙_}
 use Prim.Native.Nat.{ℕ, zero, suc, _*_, _-_, _<_, _≤_}
 use native.Mathlib.Nat.{mul-pos}
 use native.Mathlib.Omega.{arith}
 use lib.IntN.{ℤ, pos, negsuc, natAbs, ℤ-discrete}
-use lib.ListN.{length, take, drop}
 use Rattle.whole.specs.Sign.{lt-sign, nat-positive}
-use Rattle.exact.specs.Value.{Made}
-use Rattle.exact.specs.declared.Fraction.{Fraction}
 use Rattle.run.specs.Checks.{verdict}
 use Rattle.run.specs.Checked.{Checked, checked, verdict-fine}
 use Rattle.run.specs.declared.Run.{Run}
@@ -20,7 +15,7 @@ use Rattle.band.specs.Line.{Line}
 use Rattle.pin.specs.Exists.{front-single}
 use Rattle.records.specs.Travel.{trimmed-is}
 use Rattle.due.specs.Due.{Fits, span, Stands, Due}
-use Rattle.due.specs.Cases.{Counted, Given, several, one-line, Case, no-run, below-zero, one-cycle, given, due-case}
+use Rattle.due.specs.Cases.{Given, several, one-line, Case, no-run, below-zero, one-cycle, given, due-case}
 use Rattle.bands.specs.Admitted.{proper-means}
 use Rattle.due.specs.declared.Answer.{Answer}
 use Rattle.due.specs.declared.Index.{Index}

@@ -7,12 +7,10 @@ use native.Mathlib.Omega.{arith}
 use lib.IntN.{ℤ, natAbs, negℤ}
 use Rattle.run.specs.Checked.{Checked}
 use Rattle.run.specs.declared.Run.{Run}
-use Rattle.band.specs.Line.{Line, Points, Proper, off, Parallel, Same, Terminal}
-use Rattle.band.specs.Same.{same-sym}
+use Rattle.band.specs.Line.{Line, Points, Proper, off, Parallel, Terminal}
 use Rattle.band.specs.Largest.{largest-by}
-use Rattle.band.specs.Terminal.{terminal-line, terminal-some, terminal, terminal-same}
+use Rattle.band.specs.Terminal.{terminal-line, terminal-some, terminal}
 use Rattle.band.specs.Shift.{Range, moved, moved-some, moved-parallel, moved-within, moved-least, moved-single, shift-wide, shift-part}
-use Rattle.fit.specs.Scaled.{least-family, single-family, parallel-same}
 use Rattle.bands.specs.Through.{means}
 use Rattle.due.specs.Due.{Best, Fits}
 use Rattle.bands.specs.Admitted.{proper-means}
@@ -29,10 +27,10 @@ pub record SomeFit (which : Index) (r : Run) : Type 0 where
   pub fits : Fits which r line w z
 
 module _ {r : Run} (c : Checked r) where
-  abbrev P : Points
+  abbrev pub P : Points
   P = means r
 
-  proper : Proper P
+  pub proper : Proper P
   proper = proper-means c
 
   pub base : Line
@@ -43,7 +41,7 @@ module _ {r : Run} (c : Checked r) where
   base-terminal = terminal proper (terminal-some proper)
 
   -- ---- how far the values lie from it
-  height : ℕ → ℤ
+  pub height : ℕ → ℤ
   height i = off P base (P .x i) (P .low i)
 
   pub terminal-fit : SomeFit index.Terminal r
@@ -64,16 +62,16 @@ module _ {r : Run} (c : Checked r) where
         );
       }
 
-  highest : Top (r .m) height
+  pub highest : Top (r .m) height
   highest = some-top (r .m) (omega (arith, c .m-least)) height
 
-  lowest : Top (r .m) (λ i. negℤ (height i))
+  pub lowest : Top (r .m) (λ i. negℤ (height i))
   lowest = some-top (r .m) (omega (arith, c .m-least)) (λ i. negℤ (height i))
 
-  pub lo : ℤ
+  abbrev pub lo : ℤ
   lo = height (lowest .at)
 
-  pub hi : ℤ
+  abbrev pub hi : ℤ
   hi = height (highest .at)
 
   pub range : Range P base lo hi
@@ -90,10 +88,10 @@ module _ {r : Run} (c : Checked r) where
   }
 
   -- the terminal line moved, which is best of its slope
-  abbrev shifted : Line
+  abbrev pub shifted : Line
   shifted = moved P base lo hi (moved-some proper base)
 
-  shifted-best : Best (Parallel base) P shifted (shift-wide lo hi) (shift-part P base)
+  pub shifted-best : Best (Parallel base) P shifted (shift-wide lo hi) (shift-part P base)
   shifted-best = record {
     member = moved-parallel P base lo hi (moved-some proper base);
     reached = moved-within proper range (moved-some proper base);

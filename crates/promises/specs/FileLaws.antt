@@ -1,5 +1,5 @@
 -- What is written is read back, and what is read is written back in travel order; an accepted file has at most 1,830 bytes.
-use mathlib.Core.Path.{_≡_, refl, sym, ap, _∙_}
+use mathlib.Core.Path.{_≡_, refl, ap, _∙_}
 use mathlib.Core.List.{List, [], _∷_, _++_}
 use Prim.Native.Nat.{ℕ, _≤_}
 use native.Mathlib.Omega.{arith}
@@ -14,7 +14,6 @@ use Rattle.records.specs.Meaning as records
 use Rattle.format.specs.Format as format
 use Rattle.format.specs.Trip.{travelled}
 use Rattle.record.specs.Kinds.{run-file}
-use Rattle.records.specs.Travel.{trimmed}
 use Rattle.reader.specs.Meaning.{as-answer, meaning}
 use Rattle.reader.specs.ReadFine as read
 use Rattle.reader.specs.declared.Answer as R

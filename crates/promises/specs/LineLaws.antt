@@ -19,11 +19,11 @@ use Rattle.band.specs.Bound.{inside-bounded}
 use Rattle.band.specs.Triple.{up-single, down-single}
 use Rattle.band.specs.Least.{least}
 use Rattle.band.specs.Largest.{largest-by}
-use Rattle.band.specs.Terminal.{terminal-line, terminal-some, terminal-same}
+use Rattle.band.specs.Terminal.{terminal-line, terminal-some}
 use Rattle.band.specs.Terminal as ends
 use Rattle.band.specs.Shift.{Range, moved-least, moved-single}
 use Rattle.band.specs.Same.{through}
-use Rattle.fit.specs.Scaled.{Alike, within-alike, least-alike, several-alike, single-alike, least-family, single-family, parallel-same}
+use Rattle.fit.specs.Scaled.{Alike, within-alike, least-alike, several-alike, single-alike, least-family, single-family}
 use Rattle.due.specs.Due.{Best, Many, Shifted}
 use Rattle.promises.specs.Tests.{all, same, height, top, near, within, among, triple, greatest, single, half, unlike, many, terminal, between, shifted}
 use Rattle.promises.specs.TestLaws.{all-hold, same-is, alike-by}

@@ -1,28 +1,27 @@
 -- The shifted line that an answer reports is the terminal line moved.
-use mathlib.Core.Path.{_≡_, sym, ap, _∙_, subst}
+use mathlib.Core.Path.{_≡_, ap, _∙_}
 use mathlib.Core.List.{_∷_, []}
 use Prim.Native.Nat.{ℕ, _*_, _<_}
 use native.Mathlib.Omega.{arith}
-use lib.IntN.{ℤ, pos, natAbs, _+ℤ_, _-ℤ_, _*ℤ_}
+use lib.IntN.{ℤ, pos, _*ℤ_}
 use Rattle.whole.specs.Poly.{var, lit, _⊗_}
 use Rattle.whole.specs.Ring.{ring}
 use Rattle.whole.specs.Sign.{positive-nat}
-use Rattle.exact.specs.Value.{Worth, Made}
+use Rattle.exact.specs.Value.{Made}
 use Rattle.exact.specs.declared.Fraction.{Fraction}
 use Rattle.run.specs.Checks.{verdict}
 use Rattle.run.specs.Checked.{Checked, checked}
 use Rattle.run.specs.declared.Run.{Run}
-use Rattle.band.specs.Line.{Line, Same}
+use Rattle.band.specs.Line.{Line}
 use Rattle.band.specs.Same.{through}
-use Rattle.band.specs.Shift.{wide-is, shift-part}
-use Rattle.bands.specs.Through.{means}
+use Rattle.band.specs.Shift.{wide-is, shift-wide}
 use Rattle.bands.specs.Admitted.{proper-means}
 use Rattle.due.specs.Due.{Fits, Stands, Due}
 use Rattle.due.specs.OneFit.{fits-once}
 use Rattle.due.specs.Cases.{several, one-line, Case, no-run, below-zero, one-cycle, given, due-case}
 use Rattle.due.specs.declared.Answer.{Answer}
 use Rattle.due.specs.declared.Index.the-variants as index
-use Rattle.promises.specs.Ends.{base, base-terminal, lo, hi, range, shifted, shifted-fit}
+use Rattle.promises.specs.Ends.{base, base-terminal, lo, hi, range, shifted, shifted-best}
 use Rattle.promises.specs.Demand2.{Is, Moved}
 
 pub made-is : {n : ℤ} {d : ℕ} {f : Fraction} → 0 < d → Made n d f → Is n d f
@@ -38,11 +37,10 @@ module _ (r : Run) (e : verdict r .number ≡ 0) where
 
   moved-by : {a : Answer} (L : Line) (w z : ℕ) → 0 < z → Fits index.Shifted r L w z → Stands r L w z a → Moved r a
   moved-by {a} L w z some f s =
-      let g = shifted-fit c in
-      let one = fits-once index.Shifted c f (g .fits) in
       let T = base c in
+      let one = fits-once index.Shifted c f (record { base = T; terminal = base-terminal c; best = shifted-best c }) in
       let d = 2 * r .n in
-      let slope = is-same (L .some) (one .line .slope) (made-is (L .some) (s .slope)) in
+      let slope : Is (shifted c .a) (shifted c .q) (a .slope) = is-same (L .some) (one .line .slope) (made-is (L .some) (s .slope)) in
       record {
         base = T;
         terminal = base-terminal c;
@@ -51,7 +49,7 @@ module _ (r : Run) (e : verdict r .number ≡ 0) where
         range = range c;
         slope = is-same (shifted c .some) (ring (pos d ∷ T .a ∷ pos (T .q) ∷ []) (lit 2 ⊗ var 0 ⊗ var 1 ⊗ var 2) (var 1 ⊗ (lit 2 ⊗ var 0 ⊗ var 2)) tt) slope;
         offset = is-same (L .some) (one .line .offset) (made-is (L .some) (s .offset));
-        width = is-same some (ap (λ (n : ℕ). pos n) (regroup w z d (T .q) (g .w) (one .width)) ∙ ap (λ (n : ℤ). n *ℤ pos z) (wide-is (proper-means c) (range c))) (made-is some (s .width));
+        width = is-same some (ap (λ (n : ℕ). pos n) (regroup w z d (T .q) (shift-wide (lo c) (hi c)) (one .width)) ∙ ap (λ (n : ℤ). n *ℤ pos z) (wide-is (proper-means c) (range c))) (made-is some (s .width));
       }
     where
       regroup : (w z d q v : ℕ) → w * (2 * q * d) ≡ v * z → w * (2 * d * q) ≡ v * z

@@ -24,7 +24,6 @@ use Rattle.reader.specs.Meaning.{meaning}
 use Rattle.writer.specs.File as W
 use Rattle.writer.specs.File.{written, buffer-after}
 use Rattle.writer.specs.WrittenLaws.{written-ind}
-use Rattle.writer.specs.declared.Written.{Written}
 use Rattle.band.specs.Line.{Line}
 use Rattle.due.specs.Due.{span, Stands}
 use Rattle.due.specs.Cases.{Counted}

@@ -1,5 +1,5 @@
 -- A root is a cut, and so are the exact limits of a run.
-use mathlib.Core.Path.{_≡_, sym, subst}
+use mathlib.Core.Path.{_≡_, subst}
 use mathlib.Core.Logic.{_⊎_, inl, inr}
 use mathlib.Core.List.{_∷_, []}
 use Prim.Native.Nat.{ℕ, _*_, _-_, _<_, _≤_}

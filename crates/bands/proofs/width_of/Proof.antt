@@ -1,7 +1,6 @@
 -- `bands::width_of` meets its contract: each arm is what `apart` says of its width.
-use mathlib.Core.Path.{_≡_, sym, ap, _∙_, subst}
+use mathlib.Core.Path.{sym, ap, _∙_, subst}
 use lib.IntN.{pos}
-use lib.Signed.{_≤ℤ_}
 use Rattle.whole.specs.Sign.{NonNeg, le-trans, nat-nonneg}
 use Rattle.whole.specs.Greater.{greater, greater-left}
 use Rattle.bands.specs.Lent.{apart, Measurable}

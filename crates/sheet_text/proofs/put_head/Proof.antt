@@ -1,4 +1,4 @@
-use Rattle.plain.specs.GrownLaws.{put-two, put-is}
+use Rattle.plain.specs.GrownLaws.{put-two}
 use borrow.Author.Needs.{needs}
 use Rattle.sheet_text.proofs.put_head.Statement.{statement}
 use Rattle.sheet_text.proofs.put_head.Tie as tie

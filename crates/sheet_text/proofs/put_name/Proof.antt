@@ -1,4 +1,4 @@
-use Rattle.plain.specs.GrownLaws.{put-two, put-is}
+use Rattle.plain.specs.GrownLaws.{put-is}
 use mathlib.Core.Path.{sym, ap}
 use Rattle.sheet_text.specs.Sheet.{name}
 use borrow.Author.Needs.{needs}
