@@ -9,6 +9,11 @@ pub mod Demand2
 pub mod MovedLaws
 pub mod FileLaws
 pub mod FileBytes
+pub mod SameVerdict
+pub mod SameSums
+pub mod SameAnswer
+pub mod SameAverages
+pub mod SameFile
 pub mod Within
 pub mod Demand2Holds
 pub mod Demand3
