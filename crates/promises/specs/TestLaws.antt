@@ -81,10 +81,10 @@ size-zero (pos n) e = ap pos e
 size-zero (negsuc n) e = absurd (omega arith)
 
 -- the slope tells the number
-abbrev Told : ℤ → ℕ → Type 0
+abbrev pub Told : ℤ → ℕ → Type 0
 Told a n = (a ≡ pos 0 → n ≡ 11) × ((a ≡ pos 0 → ⊥) → n ≡ 0)
 
-told : (a : ℤ) (n : ℕ) → n ≡ cond (eqb (natAbs a) 0) 11 0 → Told a n
+pub told : (a : ℤ) (n : ℕ) → n ≡ cond (eqb (natAbs a) 0) 11 0 → Told a n
 told a n = cond-ind (eqb (natAbs a) 0) 11 0 (λ t. n ≡ t → Told a n)
     (λ t e. (λ _. e, λ h. absurd (h (size-zero a (eqb→eq (natAbs a) 0 t)))))
     (λ t e. (λ h. absurd (eqb-no t (ap natAbs h)), λ _. e))
@@ -92,8 +92,7 @@ told a n = cond-ind (eqb (natAbs a) 0) 11 0 (λ t. n ≡ t → Told a n)
 pub stands-by : (r : Run) (L : Line) (w z : ℕ) (a : Answer) → T (all (stands r L w z a)) → Counted L a × Stands r L w z a
 stands-by r L w z a t =
     let (number, (place, (width, (slope, (offset, (index, (thousandths, _))))))) = all-hold (stands r L w z a) t in
-    let n = told (L .a) (a .number) (eqb→eq _ _ number) in
-    (
+    let n = told (L .a) (a .number) (eqb→eq _ _ number) in (
       record { flat = n .0; sloping = n .1; place = eqb→eq _ _ place },
       record { width = made-by _ _ (a .width) width; slope = made-by _ _ (a .slope) slope; offset = made-by _ _ (a .offset) offset; index = made-by _ _ (a .index) index; thousandths = nearest-by _ _ _ thousandths },
     )
