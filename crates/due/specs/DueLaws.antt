@@ -1,9 +1,9 @@
--- Laws of what is due: when an input is negative, and a best line that is written otherwise.
+-- Laws of what is due: when an input is negative, and a best line, as `fit` tells it or written otherwise.
 use Prim.Native.Nat.{ℕ, zero, suc, _<_}
 use mathlib.Core.Logic.{⊎-elim}
 use native.Mathlib.Omega.{arith}
 use lib.Dec.{T}
-use lib.IntN.{pos}
+use lib.IntN.{pos, natAbs}
 use lib.Signed.{_≤ℤ_, _<ℤ_, <ℤ-≤ℤ-trans}
 use Rattle.whole.specs.Sign.{weaken, le-or-gt}
 use Rattle.run.specs.Run.{input}
@@ -11,7 +11,10 @@ use Rattle.run.specs.Checked.{Checked}
 use Rattle.run.specs.declared.Run.{Run}
 use Rattle.band.specs.Line.{Line, Points, Parallel, Same}
 use Rattle.band.specs.Same.{same-within, same-sym}
+use Rattle.fit.specs.Answer.{line-of, TheLine, OnlyWidth}
 use Rattle.fit.specs.Scaled.{least-family, single-family, parallel-same}
+use Rattle.fit.specs.declared.Fit.{Fit}
+use Rattle.fit.specs.declared.Wide.{Wide}
 use Rattle.bands.specs.Parts.{SamePoints}
 use Rattle.bands.specs.Transfer.{within-points, least-points, single-points, several-points}
 use Rattle.bands.specs.Admitted.{rising}
@@ -35,6 +38,13 @@ pub not-negative : {r : Run} → (BelowZero index.Zero r → ⊥) → (i : ℕ) 
 not-negative {r} none i h = ⊎-elim (λ l. l) (λ l. absurd (none (record { asked = tt; at = i; within = h; negative = l }))) (le-or-gt (pos 0) (input r i))
 
 -- ---- a best line
+-- a line that `fit` told, and a width that it told alone
+pub best-line : {F : Line → Type 0} {P : Points} {f : Fit} → (t : TheLine F P f) → Best F P (line-of f (t .told .some)) (natAbs (f .w)) (f .q)
+best-line t = record { member = t .member; reached = t .reached; least = t .least; single = t .single }
+
+pub many-lines : {F : Line → Type 0} {P : Points} {h : Wide} → OnlyWidth F P h → Many F P (natAbs (h .w)) (h .q)
+many-lines o = record { least = o .least; several = o .several }
+
 -- the line, written otherwise
 pub best-same : {F : Line → Type 0} {P : Points} {L M : Line} {w z : ℕ} → Same L M → F M → Best F P L w z → Best F P M w z
 best-same e f b = record { member = f; reached = same-within e (b .reached); least = b .least; single = b .single }

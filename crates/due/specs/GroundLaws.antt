@@ -1,15 +1,19 @@
--- What is told of what an index stands on is the answer that is due.
+-- What is told of what an index stands on is the answer that is due; and which index neither 15 nor 13 refuses.
 use mathlib.Core.Path.{_≡_, refl, sym, ap, _∙_, subst}
+use mathlib.Core.Bool.{false}
 use mathlib.Core.Logic.{⊎-elim}
-use Prim.Native.Nat.{ℕ, _*_, _<_}
+use Prim.Native.Nat.{ℕ, _*_, _<_, _≤_}
 use native.Mathlib.Nat.{mul-pos}
 use native.Mathlib.Omega.{arith}
+use lib.Dec.{T}
 use lib.IntN.{ℤ, pos, natAbs, _*ℤ_}
 use Rattle.whole.specs.Sign.{nat-nonneg}
 use Rattle.exact.specs.Value.{Made, nought}
 use Rattle.exact.specs.Exists.{some-made}
+use Rattle.run.specs.Checks.{verdict}
+use Rattle.run.specs.Checked.{checked}
 use Rattle.run.specs.declared.Run.{Run}
-use Rattle.due.specs.Due.{refused, only-width, span, Stands, Due}
+use Rattle.due.specs.Due.{refused, only-width, span, Stands, from-zero, scatters, Due}
 use Rattle.due.specs.Cases.{Counted, Given, several, one-line, below-zero, one-cycle, given, case-due}
 use Rattle.due.specs.Fractions.{none-right, made-alike}
 use Rattle.due.specs.Ground.{AnswerParts, shown, ruled, Ready, ShownBy, LineBy, AnswerBy, line, Rests, Answered, GroundDue}
@@ -67,13 +71,21 @@ module _ {which : Index} {r : Run} {b : Based} (h : Rests which r b) {a : Answer
   pub rests-given : Given which r a
   rests-given = one-line (line b (h .tellable .some)) (h .w) (h .z) (h .some) (h .fits) counted stands
 
+-- ---- an index that neither 15 nor 13 refuses
+pub plainly : (which : Index) {r : Run} → from-zero which ≡ false → scatters which ≡ false → verdict r .number ≡ 0 → Answered which r
+plainly which e f v = record { fine = v; from-zero = λ h. absurd (subst T e (h .asked)); cycles = λ h. absurd (subst T f (h .0)) }
+
+-- where limits are asked for, the run has two cycles or more
+pub cycles-two : (which : Index) {r : Run} → T (scatters which) → Answered which r → 2 ≤ r .n
+cycles-two which {r} t o = let n = checked r (o .fine) .n-least in let e : r .n ≡ 1 → ⊥ = λ e. o .cycles (t, e) in omega arith
+
 -- ---- the answer
 pub ground-ready : (which : Index) (r : Run) (g : Ground) → GroundDue which r g → Ready g
 ground-ready which r (ground.Line b) d = d .1 .tellable
 ground-ready which r (ground.Several h) d = tt
 ground-ready which r (ground.Refused k) d = tt
 
-answered-given : {which : Index} {r : Run} {a : Answer} → Answered which r → Given which r a → Due which r a
+pub answered-given : {which : Index} {r : Run} {a : Answer} → Answered which r → Given which r a → Due which r a
 answered-given o g = case-due (given (o .fine) (o .from-zero) (o .cycles) g)
 
 pub ground-answer : (which : Index) (r : Run) (g : Ground) {a : Answer} → GroundDue which r g → AnswerBy g (span r) a → Due which r a

@@ -2,12 +2,8 @@
 use mathlib.Core.Path.{_≡_, refl, subst}
 use Prim.Native.Nat.{ℕ, _*_, _≤_}
 use native.Mathlib.Omega.{arith}
-use lib.Dec.{T}
-use mathlib.Core.Bool.{false}
 use lib.IntN.{natAbs}
 use Rattle.exact.specs.Exists.{some-made}
-use Rattle.run.specs.Checks.{verdict}
-use Rattle.run.specs.Checked.{checked}
 use Rattle.run.specs.declared.Run.{Run}
 use Rattle.band.specs.Line.{Points}
 use Rattle.fit.specs.Answer.{Told, line-of, BestDue}
@@ -23,7 +19,7 @@ use Rattle.fit.specs.declared.Drawn.the-variants as drawn
 use Rattle.bands.specs.Parts.{SamePoints}
 use Rattle.bands.specs.Transfer.{same-points-sym, within-points, least-points, single-points, several-points}
 use Rattle.bands.specs.Admitted.{admitted}
-use Rattle.due.specs.Due.{Fits, from-zero, scatters}
+use Rattle.due.specs.Due.{Fits}
 use Rattle.due.specs.Ground.{Rests, Answered, GroundDue}
 use Rattle.due.specs.declared.Ground.the-variants as ground
 use Rattle.due.specs.declared.Index.{Index}
@@ -41,14 +37,6 @@ whole-width h = record { w = h .w; q = h .q; width = some-made (h .w) (h .q) .0 
 
 pub whole-width-tells : (h : Reach) → TellsWidth h (whole-width h)
 whole-width-tells h = record { w-is = refl; q-is = refl; width = some-made (h .w) (h .q) .1 }
-
--- ---- an index that neither 15 nor 13 refuses
-pub plainly : (which : Index) {r : Run} → from-zero which ≡ false → scatters which ≡ false → verdict r .number ≡ 0 → Answered which r
-plainly which e f v = record { fine = v; from-zero = λ h. absurd (subst T e (h .asked)); cycles = λ h. absurd (subst T f (h .0)) }
-
--- where limits are asked for, the run has two cycles or more
-pub cycles-two : (which : Index) {r : Run} → T (scatters which) → Answered which r → 2 ≤ r .n
-cycles-two which {r} t o = let n = checked r (o .fine) .n-least in let e : r .n ≡ 1 → ⊥ = λ e. o .cycles (t, e) in omega arith
 
 -- ---- with its own width
 pub own-rests : {which : Index} {r : Run} {c : Course} (t : Told (whole c)) → Fits which r (line-of (whole c) (t .some)) (natAbs (c .w)) (c .q) → Rests which r (owned c)

@@ -24,13 +24,14 @@ use Rattle.bands.specs.Through.{means, strokes, limit-points}
 use Rattle.bands.specs.Parts.{SamePoints}
 use Rattle.bands.specs.Transfer.{same-points-sym, largest-points, terminal-points, zero-points, front-points}
 use Rattle.due.specs.Due.{BelowZero}
-use Rattle.due.specs.DueLaws.{below-first, not-negative, best-same}
+use Rattle.due.specs.DueLaws.{below-first, not-negative, best-line, many-lines, best-same}
 use Rattle.due.specs.Ground.{Answered, GroundDue}
+use Rattle.due.specs.GroundLaws.{plainly, cycles-two}
 use Rattle.due.specs.declared.Ground.the-variants as ground
 use Rattle.due.specs.declared.Index.the-variants as index
 use Rattle.grounds.specs.Found.{owned, stood}
-use Rattle.grounds.specs.SameLine.{best-line, many-lines, best-points, many-points, best-family, many-family}
-use Rattle.grounds.specs.FoundLaws.{whole, whole-tells, whole-width, plainly, cycles-two, own-rests, plot-stands}
+use Rattle.grounds.specs.SameLine.{best-points, many-points, best-family, many-family}
+use Rattle.grounds.specs.FoundLaws.{whole, whole-tells, whole-width, own-rests, plot-stands}
 
 -- ---- the terminal line and the shifted one
 module _ {P : Points} (r : Run) {c : Course} (fine : verdict r .number ≡ 0) (e : SamePoints P (means r)) where

@@ -1,4 +1,4 @@
--- A line that `fit` told is the best one of its points, of points that are the same, and of a family that is the same.
+-- A line that `fit` told is the best one of points that are the same, and of a family that is the same.
 use Prim.Native.Nat.{ℕ}
 use lib.IntN.{natAbs}
 use Rattle.band.specs.Line.{Line, Points}
@@ -9,12 +9,6 @@ use Rattle.fit.specs.declared.Wide.{Wide}
 use Rattle.bands.specs.Parts.{SamePoints}
 use Rattle.bands.specs.Transfer.{within-points, least-points, single-points, several-points}
 use Rattle.due.specs.Due.{Best, Many}
-
-pub best-line : {F : Line → Type 0} {P : Points} {f : Fit} → (t : TheLine F P f) → Best F P (line-of f (t .told .some)) (natAbs (f .w)) (f .q)
-best-line t = record { member = t .member; reached = t .reached; least = t .least; single = t .single }
-
-pub many-lines : {F : Line → Type 0} {P : Points} {h : Wide} → OnlyWidth F P h → Many F P (natAbs (h .w)) (h .q)
-many-lines o = record { least = o .least; several = o .several }
 
 -- ---- the lines of points that are the same
 module _ {P R : Points} (e : SamePoints P R) where

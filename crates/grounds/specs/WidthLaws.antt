@@ -31,15 +31,16 @@ use Rattle.bands.specs.Parts.{width-at}
 use Rattle.bands.specs.declared.Width.{Width}
 use Rattle.bands.specs.declared.Width.the-variants as widths
 use Rattle.due.specs.Due.{Independent, Fits, from-zero, scatters}
+use Rattle.due.specs.DueLaws.{best-line}
 use Rattle.due.specs.Ground.{Answered, GroundDue}
+use Rattle.due.specs.GroundLaws.{plainly, cycles-two}
 use Rattle.due.specs.declared.Ground.{Ground}
 use Rattle.due.specs.declared.Ground.the-variants as ground
 use Rattle.due.specs.declared.Index.{Index}
 use Rattle.due.specs.declared.Index.the-variants as index
 use Rattle.grounds.specs.Basis.{Sides}
 use Rattle.grounds.specs.Found.{wide-index, Narrow, Widened}
-use Rattle.grounds.specs.SameLine.{best-line}
-use Rattle.grounds.specs.FoundLaws.{whole, whole-tells, whole-width, whole-width-tells, plainly, cycles-two}
+use Rattle.grounds.specs.FoundLaws.{whole, whole-tells, whole-width, whole-width-tells}
 
 -- ---- 13
 module _ (which : Index) (r : Run) (e : from-zero which ≡ false) (fine : verdict r .number ≡ 0) where

@@ -1,6 +1,8 @@
 pub mod Exact
 pub mod Reported
 pub mod Enums
+pub mod DrawnLaws
+pub mod EnumLaws
 pub mod Figures
 pub mod Demand1
 pub mod Exactly

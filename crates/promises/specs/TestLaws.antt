@@ -81,10 +81,10 @@ size-zero (pos n) e = ap pos e
 size-zero (negsuc n) e = absurd (omega arith)
 
 -- the slope tells the number
-abbrev Told : ℤ → ℕ → Type 0
+abbrev pub Told : ℤ → ℕ → Type 0
 Told a n = (a ≡ pos 0 → n ≡ 11) × ((a ≡ pos 0 → ⊥) → n ≡ 0)
 
-told : (a : ℤ) (n : ℕ) → n ≡ cond (eqb (natAbs a) 0) 11 0 → Told a n
+pub told : (a : ℤ) (n : ℕ) → n ≡ cond (eqb (natAbs a) 0) 11 0 → Told a n
 told a n = cond-ind (eqb (natAbs a) 0) 11 0 (λ t. n ≡ t → Told a n)
     (λ t e. (λ _. e, λ h. absurd (h (size-zero a (eqb→eq (natAbs a) 0 t)))))
     (λ t e. (λ h. absurd (eqb-no t (ap natAbs h)), λ _. e))
