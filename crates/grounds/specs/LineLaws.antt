@@ -41,7 +41,8 @@ module _ {P : Points} (r : Run) {c : Course} (fine : verdict r .number ≡ 0) (e
 
   pub shifted-stands : CourseDue (TheShifted P) c → GroundDue index.Shifted r (ground.Line (owned c))
   shifted-stands d =
-      let t = d .due (whole c) (whole-tells c) in (
+      let t = d .due (whole c) (whole-tells c) in
+      (
         plainly index.Shifted refl refl fine,
         own-rests (t .line .told) (record {
           base = t .base;

@@ -63,7 +63,7 @@ module _ (which : Index) (r : Run) where
         → (a .number ≡ k) ↔ (Passed r × All Quiet more × P)
     number-exactly k P more after h um ua is =
         let x : (p : ℕ) → FirstOf (before more ++ (at-zero k P ∷ after)) (given-at k p) ↔ (All Quiet (before more) × ((p ≡ 0) × P)) =
-        λ p. exactly (before more) (at-zero k P) after p (λ e. omega arith) (all-append (Other k) cs more .1 (others-high k h, um)) ua
+            λ p. exactly (before more) (at-zero k P) after p (λ e. omega arith) (all-append (Other k) cs more .1 (others-high k h, um)) ua
         in (
           λ e.
               let y = x (a .place) .0 (subst (λ (l : List Condition). FirstOf l (given-at k (a .place))) (sym is) (at-number k e)) in

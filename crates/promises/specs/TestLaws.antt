@@ -92,7 +92,8 @@ told a n = cond-ind (eqb (natAbs a) 0) 11 0 (λ t. n ≡ t → Told a n)
 pub stands-by : (r : Run) (L : Line) (w z : ℕ) (a : Answer) → T (all (stands r L w z a)) → Counted L a × Stands r L w z a
 stands-by r L w z a t =
     let (number, (place, (width, (slope, (offset, (index, (thousandths, _))))))) = all-hold (stands r L w z a) t in
-    let n = told (L .a) (a .number) (eqb→eq _ _ number) in (
+    let n = told (L .a) (a .number) (eqb→eq _ _ number) in
+    (
       record { flat = n .0; sloping = n .1; place = eqb→eq _ _ place },
       record { width = made-by _ _ (a .width) width; slope = made-by _ _ (a .slope) slope; offset = made-by _ _ (a .offset) offset; index = made-by _ _ (a .index) index; thousandths = nearest-by _ _ _ thousandths },
     )
