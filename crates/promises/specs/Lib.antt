@@ -14,6 +14,7 @@ pub mod Demand3
 pub mod Kept
 pub mod Demand3Holds
 pub mod Certified
+pub mod Ascii
 pub mod PaperSheet
 pub mod ReportedLaws
 pub mod Cuts

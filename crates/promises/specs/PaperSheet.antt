@@ -1,16 +1,12 @@
 -- The paper's printed sheet, derived: the sheet that is due for the file of the paper's run.
 use mathlib.Core.Path.{_≡_, refl, sym, ap, subst, _∙_}
-use mathlib.Core.List.{List, [], _∷_, _++_}
+use mathlib.Core.List.{List, [], _∷_}
 use Prim.Native.Nat.{ℕ, zero, suc, _<_}
-use Prim.Native.Char.{code}
-use Prim.Native.String as S
-use Prim.Native.String.{String}
 use native.Mathlib.Omega.{arith}
 use lib.Dec.{T, ltb, ltb→lt}
 use lib.ListN.{length, getD}
 use Rattle.whole.specs.Every.{every, first-not}
 use Rattle.plain.specs.Digits.{digits}
-use Rattle.plain.specs.Plain.{line-feed}
 use Rattle.table.specs.Table.{given}
 use Rattle.run.specs.Places.{rising, falling, cycles-places}
 use Rattle.run.specs.Sample.{filled, cycles, written-out, sample}
@@ -31,6 +27,7 @@ use Rattle.sheet_text.specs.Sheet.{lines, SheetDue, accepted}
 use Rattle.sheet_text.specs.Once.{one-sheet}
 use Rattle.promises.specs.Figures.{Figure, figures}
 use Rattle.promises.specs.Certified.{Each, figures-due}
+use Rattle.promises.specs.Ascii.{printed}
 
 -- ---- any run that no check refuses, with zeros beyond its points and cycles: the sheet of its file has the lines of the answers that are due for it
 pub sheet-of-run : (r : Run) → verdict r ≡ fine → trimmed r ≡ r → (A : Index → Answer) → ((i : Index) → Due i r (A i)) → SheetDue (file r) (lines (r .m) (r .n) A)
@@ -86,20 +83,10 @@ answer-due index.Lh = row-due 20 tt
 answer-due index.Lhr = row-due 21 tt
 
 -- ---- its sheet
--- a text as bytes: the number of an ASCII character is its byte
-abbrev pub ascii : String → List ℕ
-ascii S.[] = []
-ascii (S._∷_ c s) = code c ∷ ascii s
-
--- lines, each with its line feed
-abbrev pub with-feeds : List String → List ℕ
-with-feeds [] = []
-with-feeds (l ∷ ls) = ascii l ++ (line-feed ∷ with-feeds ls)
-
 -- the paper's nine lines, and those of zero-based and front terminal-based linearity
-abbrev pub printed : List ℕ
-printed =
-    with-feeds
+abbrev pub paper-lines : List ℕ
+paper-lines =
+    printed
     ("points 3 cycles 2"
     ∷ "terminal 97/2000 4.850"
     ∷ "shifted 97/4000 2.425"
@@ -114,13 +101,13 @@ printed =
     ∷ [])
 
 -- computed
-lines-are : lines (sample .m) (sample .n) paper-answer ≡ printed
+lines-are : lines (sample .m) (sample .n) paper-answer ≡ paper-lines
 unfolding digits filled cycles written-out
 lines-are = refl
 
-pub paper-sheet : SheetDue (file sample) printed
+pub paper-sheet : SheetDue (file sample) paper-lines
 paper-sheet = subst (SheetDue (file sample)) lines-are (sheet-of-run sample passes trimmed-already paper-answer answer-due)
 
 -- and no other is
-pub paper-sheet-only : {t : List ℕ} → SheetDue (file sample) t → t ≡ printed
+pub paper-sheet-only : {t : List ℕ} → SheetDue (file sample) t → t ≡ paper-lines
 paper-sheet-only d = one-sheet d paper-sheet
