@@ -22,6 +22,8 @@ pub mod Demand3
 pub mod Kept
 pub mod Demand3Holds
 pub mod Certified
+pub mod Ascii
+pub mod PaperSheet
 pub mod ReportedLaws
 pub mod Cuts
 pub mod Points

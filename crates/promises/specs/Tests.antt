@@ -10,7 +10,7 @@ use Rattle.whole.specs.Every.{every}
 use Rattle.exact.specs.RoundingLaws.{some-nearest}
 use Rattle.exact.specs.declared.Fraction.{Fraction}
 use Rattle.run.specs.declared.Run.{Run}
-use Rattle.groups.specs.Search.{too-small}
+use Rattle.groups.specs.LimitTest.{smallest}
 use Rattle.band.specs.Line.{Line, Points, off}
 use Rattle.band.specs.Candidate.{Candidate, one, up, down, num, wide, part}
 use Rattle.band.specs.Terminal.{terminal-part}
@@ -130,9 +130,6 @@ pinned-many P x v A B =
     same (P .x 0) x ∷ same (off P A x v) (pos 0) ∷ same (off P B x v) (pos 0) ∷ within P A w (P .d) ∷ within P B w (P .d) ∷ unlike A B ∷ []
 
 -- ---- limits
-abbrev pub smallest : Run → (s i k : ℕ) → Bool
-smallest r s i k = not (too-small r s i k) && (eqb k 0 || too-small r s i (k - 1))
-
 abbrev pub smallests : Run → (k : ℕ → ℕ → ℕ) → Bool
 smallests r k = every (r .m) (λ i. smallest r 0 i (k 0 i) && smallest r 1 i (k 1 i))
 
