@@ -17,7 +17,7 @@ use Rattle.run.specs.declared.Run.{Run}
 use Rattle.run.specs.declared.Rule.{Rule}
 use Rattle.run.specs.declared.Rule.the-variants.{Limits, Rising, Calm}
 use Rattle.run.specs.declared.Verdict.{Verdict}
-use Rattle.records.specs.Trimmed.{every-same, first-not-same}
+use Rattle.whole.specs.Every.{every-same, first-not-same}
 use Rattle.promises.specs.Demand2.{SameWithin}
 
 -- the verdict by the sizes, and by where each rule fails first
