@@ -24,6 +24,8 @@ pub mod Demand3Holds
 pub mod Certified
 pub mod Ascii
 pub mod PaperSheet
+pub mod Edges
+pub mod FileVectors
 pub mod ReportedLaws
 pub mod Cuts
 pub mod Points
