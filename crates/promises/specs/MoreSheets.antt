@@ -32,6 +32,7 @@ use Rattle.promises.specs.Certified.{sample-limits}
 use Rattle.promises.specs.Ascii.{printed}
 use Rattle.promises.specs.PaperSheet.{sheet-of-run}
 
+-- an answer that a certificate certifies
 by : {r : Run} {i : Index} {a : Answer} (c : Certificate i) → T (certifies (record { run = r; which = i; answer = a }) c) → Due i r a
 by {r} {i} {a} c t = certified (record { run = r; which = i; answer = a }) c t
 
