@@ -21,7 +21,7 @@ Each P [] = Unit {0}
 Each P (x ∷ xs) = P x × Each P xs
 
 -- of the paper's run k is 36 at the middle point of the up stroke, and else 0
-abbrev sample-limits : Limits
+abbrev pub sample-limits : Limits
 sample-limits = record { up = 0 ∷ 36 ∷ 0 ∷ []; down = 0 ∷ 0 ∷ 0 ∷ [] }
 
 -- ---- a certificate for each figure, in the table's order

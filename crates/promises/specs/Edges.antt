@@ -1,9 +1,10 @@
 -- The limits of the definitions from both sides, computed: the last number within each passes, and the next one does not.
 use mathlib.Core.Path.{_≡_, refl}
+use mathlib.Core.Bool.{true, false}
 use mathlib.Core.List.{List, [], _∷_, map}
 use Prim.Native.Nat.{ℕ, suc, _*_, _<_, _≤_}
 use native.Mathlib.Omega.{arith}
-use lib.IntN.{ℤ, pos, negsuc}
+use lib.IntN.{ℤ, pos, negsuc, negℤ}
 use Rattle.whole.specs.Every.{every, first-not}
 use Rattle.exact.specs.Rounding as rounding
 use Rattle.table.specs.Table.{given}
@@ -13,6 +14,8 @@ use Rattle.run.specs.Checks.{fine, verdict}
 use Rattle.run.specs.declared.Run.{Run}
 use Rattle.run.specs.declared.Verdict.{Verdict}
 use Rattle.runfile.specs.Witness.{made, small}
+use Rattle.band.specs.Band.{lent}
+use Rattle.band.specs.Admit.{admits}
 
 -- ---- runs
 abbrev refused : (number place : ℕ) → Verdict
@@ -67,6 +70,26 @@ up-scatter = refl
 pub down-scatter : map (λ (y : ℤ). verdict (made 2 121 (pos 0) (pos 1) (pos 2) (pos 0) y)) scatter-ends ≡ outer-refused 10
 unfolding every first-not given
 down-scatter = refl
+
+-- ---- bands, which lines are drawn past
+-- 3 to 11 inputs
+pub band-inputs : map (λ (m : ℕ). admits (lent m 1 (map pos (rising m)) [] [])) (2 ∷ 3 ∷ 11 ∷ 12 ∷ []) ≡ false ∷ true ∷ true ∷ false ∷ []
+unfolding rising every
+band-inputs = refl
+
+-- in units of 1 to 1/200
+pub band-unit : map (λ (d : ℕ). admits (lent 3 d (map pos (rising 3)) [] [])) (0 ∷ 1 ∷ 200 ∷ 201 ∷ []) ≡ false ∷ true ∷ true ∷ false ∷ []
+unfolding rising every
+band-unit = refl
+
+-- inputs from -30,000 to 30,000, and values from -103,000,000 to 103,000,000
+pub band-input : map (λ (x : ℕ). admits (lent 3 1 (negℤ (pos x) ∷ pos 0 ∷ pos x ∷ []) [] [])) (30000 ∷ 30001 ∷ []) ≡ true ∷ false ∷ []
+unfolding every
+band-input = refl
+
+pub band-value : map (λ (v : ℕ). admits (lent 3 1 (map pos (rising 3)) (negℤ (pos v) ∷ []) (pos v ∷ []))) (103000000 ∷ 103000001 ∷ []) ≡ true ∷ false ∷ []
+unfolding rising every
+band-value = refl
 
 -- ---- the largest numerator n for which 100,000·n fits a u64
 pub largest-told : (100000 * rounding.largest ≤ 18446744073709551615) × (18446744073709551615 < 100000 * suc rounding.largest)

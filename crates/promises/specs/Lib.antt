@@ -24,6 +24,7 @@ pub mod Demand3Holds
 pub mod Certified
 pub mod Ascii
 pub mod PaperSheet
+pub mod MoreSheets
 pub mod Edges
 pub mod FileVectors
 pub mod ReportedLaws
