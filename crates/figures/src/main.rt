@@ -1,4 +1,4 @@
-// Prints fractions: the comparison with the second program runs it, and so does `make sheet` until the sheet program is there.
+// Prints fractions, for the comparison with the second program.
 //
 // Standard input holds records of two numbers of 8 bytes, low byte first: a numerator plus 2 to the 63rd, and a denominator.
 // For each a line is printed: the fraction in lowest terms, a space, and its thousandths of one percent, or `untold`.
