@@ -31,7 +31,7 @@ pub record LargestOf (m : ℕ) (g : ℕ → ℕ) (w : ℕ) : Type 0 where
   pub within : place < m
   pub reached : g place ≡ w
 
--- hysteresis (formula 9): D - U at a point, in sum units
+-- hysteresis (formula 9): the size of D - U at a point, in sum units
 abbrev pub swing : Run → ℕ → ℕ
 swing r i = natAbs (down-sum r i -ℤ up-sum r i)
 

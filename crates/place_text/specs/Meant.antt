@@ -75,7 +75,7 @@ pub record OfSurplus (s : List ℕ) (p : ℕ) : Type 0 where
   pub closes : last .it ≡ close
 
 -- ---- 9 and 10, told of a point
--- the number told is that of the first record that gives the input of the point
+-- the number told is that of a record that gives the input of the point
 abbrev pub input-told : List ℕ → (point : ℕ) → ℕ
 input-told s p = label-at (input-at p) (all-numbered s)
 

@@ -3,11 +3,11 @@
 -- What it says: for each byte string, and for each run and index, there is exactly one answer. The refusals of a byte string (`records` `Meaning`), of a run built by hand (`run` `Checks`), of an index (`due` `Due`) and of a write (`writer` `File`) are tables, and the number is that of the first condition that holds (`table` `Table`); `words` says it record by record, and `index-exactly` and `write-exactly` number by number. The numbers are those of the paper's table and 15 of request C-11, the fields under a refusal are the fixed ones, and a refused write or sheet leaves the buffer as it was.
 -- What it does not say: what a program reads and prints. No contract can; the comparison with the second program holds it.
 use mathlib.Core.Path.{_≡_}
-use mathlib.Core.List.{List, [], _∷_}
+use mathlib.Core.List.{List, [], _∷_, _++_}
 use mathlib.Core.Logic.{_⊎_, _↔_}
 use Prim.Native.Nat.{ℕ, _<_, _≤_}
 use lib.Dec.{T}
-use lib.ListN.{length}
+use lib.ListN.{length, drop}
 use Rattle.exact.specs.Value.{nought}
 use Rattle.plain.specs.declared.Printed.{Printed}
 use Rattle.run.specs.Run.{zeros}
@@ -55,13 +55,16 @@ pub record IndexExactly (which : Index) (r : Run) (a : Answer) : Type 0 where
   -- any other number is that of the checks of the run, with their place
   pub of-run : ¬ (Passed r) → (a .number ≡ verdict r .number) × (a .place ≡ verdict r .place)
 
--- each number of a write
+-- each number of a write, told of place 0 but for those of the run; the file's length under 0, and the file in front of what stood behind it
 pub record WriteExactly (r : Run) (buffer : List ℕ) : Type 0 where
   pub fourteen : (written r buffer .number ≡ 14) ↔ (Passed r × (length buffer < length (file r)))
   pub zero : (written r buffer .number ≡ 0) ↔ (Passed r × (length (file r) ≤ length buffer))
   pub of-run : ¬ (Passed r) → (written r buffer .number ≡ verdict r .number) × (written r buffer .place ≡ verdict r .place)
+  pub place : Passed r → written r buffer .place ≡ 0
+  pub len : written r buffer .number ≡ 0 → written r buffer .len ≡ length (file r)
+  pub after : written r buffer .number ≡ 0 → buffer-after r buffer ≡ file r ++ drop (length (file r)) buffer
 
--- the fixed fields: under 11 the width and the line stand, under 12 the width alone, under any other refusal nothing. The place is 0 when accepted, and under 11, 12, 13 and 15
+-- the fixed fields: under 11 the index is 0/1 and the thousandths 0, under 12 all but the width, under any other refusal everything. The place is 0 when accepted, and under 11, 12, 13 and 15
 pub record Fixed (a : Answer) : Type 0 where
   pub accepted : a .number ≡ 0 → a .place ≡ 0
   pub flat : a .number ≡ 11 → (a .place ≡ 0) × (a .index ≡ nought) × (a .thousandths ≡ 0)
@@ -99,4 +102,5 @@ pub record Demand1 : Type 0 where
   -- a buffer lent for the sheet
   pub sheet : (s : List ℕ) → ExactlyOne (SheetDue s)
   pub print : (s before : List ℕ) → ExactlyOne (λ (p : Print). PrintDue s before (p .buffer) (p .answer))
+  pub print-exactly : (s t before after : List ℕ) (q : Printed) → SheetDue s t → PrintDue s before after q → (q .number ≡ 14) ↔ (length before < length t)
   pub print-refused : (s before after : List ℕ) (q : Printed) → PrintDue s before after q → (q .number ≡ 0 → ⊥) → (q ≡ record { number = 14; len = 0 }) × (after ≡ before)

@@ -1,7 +1,7 @@
 -- Demand 1 holds.
 use mathlib.Core.Path.{_≡_, refl, sym, ap, _∙_, subst}
 use mathlib.Core.List.{List, [], _∷_, _++_}
-use mathlib.Core.Logic.{inl, inr}
+use mathlib.Core.Logic.{inl, inr, _↔_}
 use Prim.Native.Nat.{ℕ, _<_, _≤_}
 use native.Mathlib.Decide.{decLt}
 use native.Mathlib.Omega.{arith}
@@ -28,7 +28,7 @@ use Rattle.due.specs.Cases.{several, one-line, Case, no-run, below-zero, one-cy
 use Rattle.due.specs.Once.{one-answer}
 use Rattle.due.specs.declared.Answer.{Answer}
 use Rattle.due.specs.declared.Index.{Index}
-use Rattle.sheet_text.specs.Sheet.{PrintDue, fits, short}
+use Rattle.sheet_text.specs.Sheet.{SheetDue, PrintDue, fits, short}
 use Rattle.sheet_text.specs.Once.{one-sheet, one-print}
 use Rattle.promises.specs.Exists.{some-answer}
 use Rattle.promises.specs.Sheets.{some-averages, some-sheet}
@@ -98,6 +98,15 @@ refused-print : {s before after : List ℕ} {q : Printed} → PrintDue s before 
 refused-print (fits t a l e f) n = absurd (n (ap (λ (q : Printed). q .number) e))
 refused-print (short t a l e f) n = (e, f)
 
+exactly-print : {s before after : List ℕ} {q : Printed} (t : List ℕ) → SheetDue s t → PrintDue s before after q → (q .number ≡ 14) ↔ (length before < length t)
+exactly-print t a (fits u b l e f) =
+    let same = ap length (one-sheet a b) in
+    let k = ap (λ (q : Printed). q .number) e in
+    (λ z. absurd (omega arith), λ h. absurd (omega arith))
+exactly-print t a (short u b l e f) =
+    let same = ap length (one-sheet a b) in
+    (λ _. omega arith, λ _. ap (λ (q : Printed). q .number) e)
+
 pub demand-1 : Demand1
 demand-1 = record {
   file = λ s. record { one = meaning s; is = meaning-due s; only = λ a h. one-meaning s h (meaning-due s) };
@@ -118,5 +127,6 @@ demand-1 = record {
   write-refused = write-none;
   sheet = λ s. let d = some-sheet s in record { one = d .0; is = d .1; only = λ t e. one-sheet e (d .1) };
   print = λ s before. let d = some-print s before in record { one = d .0; is = d .1; only = λ p e. let same = one-print e (d .1) in λ i. record { answer = same .answer i; buffer = same .buffer i } };
+  print-exactly = λ s t before after q. exactly-print t;
   print-refused = λ s before after q. refused-print;
 }

@@ -4,6 +4,7 @@
 -- What it does not say: that a sensor's readings are right, or that a file holds the readings that were taken.
 use mathlib.Core.Path.{_≡_}
 use mathlib.Core.List.{List}
+use mathlib.Core.Logic.{_↔_}
 use Prim.Native.Nat.{ℕ, _*_, _<_, _≤_}
 use lib.IntN.{ℤ, pos, natAbs, _+ℤ_, _-ℤ_, _*ℤ_}
 use lib.ListN.{length, take, getD}
@@ -29,10 +30,11 @@ use Rattle.due.specs.Due.{Best, Fits, SeveralFit, span, Due}
 use Rattle.due.specs.declared.Answer.{Answer}
 use Rattle.due.specs.declared.Index.{Index}
 use Rattle.due.specs.declared.Index.the-variants as kinds
+use Rattle.promises.specs.Enums.{SameAnswers}
 use Rattle.promises.specs.Reported.{Reports}
 
 -- ---- means, lines and indices
--- f is n/d, in lowest terms
+-- f is n/d, in lowest terms, where d is not zero
 pub record Is (n : ℤ) (d : ℕ) (f : Fraction) : Type 0 where
   pub lowest : Lowest f
   pub worth : Worth f n d
@@ -107,8 +109,8 @@ pub record SameWithin (r q : Run) : Type 0 where
 -- and so they have the same answers
 pub record Alike (r q : Run) : Type 0 where
   pub check : verdict r ≡ verdict q
-  pub index : (which : Index) (a : Answer) → Due which r a → Due which q a
-  pub averages : (a : Averages) → AveragesDue r a → AveragesDue q a
+  pub index : (which : Index) (a : Answer) → Due which r a ↔ Due which q a
+  pub averages : (a : Averages) → AveragesDue r a ↔ AveragesDue q a
   pub written : (buffer : List ℕ) → written r buffer ≡ written q buffer
   pub after : (buffer : List ℕ) → buffer-after r buffer ≡ buffer-after q buffer
 
@@ -134,6 +136,8 @@ pub record Standard (r : Run) : Type 0 where
   pub same : TrimmedOf r (trimmed r)
   -- its file is a byte string, so that what follows speaks of it
   pub bytes : Bytes (file r)
+  -- what `fit`, `pin` and `exact` answer of its points is what stands under its indices
+  pub enums : SameAnswers r
 
 pub record Demand2 : Type 0 where
   pub run : (r : Run) → verdict r .number ≡ 0 → Standard r

@@ -24,6 +24,7 @@ use Rattle.promises.specs.ReportedLaws.{the-independent, the-zero, the-f
 use Rattle.promises.specs.MovedLaws.{made-is, the-shifted}
 use Rattle.promises.specs.FileLaws.{written-back, same-records, longest-accepted}
 use Rattle.promises.specs.FileBytes.{file-bytes}
+use Rattle.promises.specs.EnumLaws.{same-answers}
 use Rattle.promises.specs.Within.{within-alike, zeros-alike}
 use Rattle.promises.specs.Demand2.{MeansAt, Drawn, Accepted, Flat, Divided, Demand2}
 
@@ -119,6 +120,7 @@ demand-2 = record {
     back = written-back r e;
     same = trimmed-is r (verdict-fine r e);
     bytes = file-bytes r e;
+    enums = same-answers r e;
   };
   rewritten = same-records;
   longest = longest-accepted;

@@ -1,7 +1,7 @@
 -- Demand 3. "Total uncertainty rests on square roots rounded up to one nth of a reading unit. For every accepted run of two or more cycles, no straight line keeps every exact limit point within W less that step, and a reported line keeps each closer than W plus that step." The statement; `Demand3Holds` proves it.
 --
 -- What it says: W is the width of the LHR answer, w/z in reading units, so n·w/z in sum units, and the step is one sum unit over `step`, which is 1: one nth of a reading unit. It speaks of every line of fractions, and of the limit points with the root itself, which need be no fraction. It holds for the width under 11 and 12 as well, and for the line under 11. And nothing of it is empty: a limit is known on both sides of every fraction, some line keeps every exact limit point within some width, and where the number is not 12 a line is reported.
--- What it does not say: that the reported line is the best one for the exact limit points. It is best for the rounded ones, and no line is better for the exact ones by a step or more.
+-- What it does not say: that the reported line is the best one for the exact limit points. It is best for the rounded ones, and another line may be better for the exact ones, by less than two steps.
 use mathlib.Core.Path.{_≡_}
 use mathlib.Core.Logic.{_⊎_}
 use Prim.Native.Nat.{ℕ, _*_, _<_, _≤_}

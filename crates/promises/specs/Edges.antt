@@ -1,4 +1,4 @@
--- The limits of the definitions from both sides, computed: the last number within each passes, and the next one does not.
+-- The limits of the definitions, computed: the last number within each passes, and the next one does not.
 use mathlib.Core.Path.{_≡_, refl}
 use mathlib.Core.Bool.{true, false}
 use mathlib.Core.List.{List, [], _∷_, map}

@@ -13,7 +13,7 @@ use Rattle.run.specs.Checks.{checks, verdict}
 use Rattle.run.specs.Checked.{verdict-most}
 use Rattle.run.specs.declared.Run.{Run}
 use Rattle.writer.specs.File.{file, written}
-use Rattle.writer.specs.WrittenLaws.{written-unchecked, written-short, written-full}
+use Rattle.writer.specs.WrittenLaws.{written-unchecked, written-short, written-full, after-full}
 use Rattle.writer.specs.declared.Written.{Written}
 use Rattle.due.specs.Due.{BelowZero, OneCycle, SeveralReach, LevelLine, at-zero, own, refusals, Due}
 use Rattle.due.specs.Cases.{quiet-checks, checks-quiet, Case, no-run, below-zero, one-cycle, given, due-case}
@@ -122,10 +122,17 @@ module _ (which : Index) (r : Run) where
 
 -- ---- a write
 pub write-exactly : (r : Run) (buffer : List ℕ) → WriteExactly r buffer
-write-exactly r buffer = record { fourteen = (short, λ h. ap (λ (w : Written). w .number) (written-short r buffer (h .0) (h .1))); zero = (full, λ h. ap (λ (w : Written). w .number) (written-full r buffer (h .0) (h .1))); of-run = of-run }
+write-exactly r buffer = record { fourteen = (short, λ h. ap (λ (w : Written). w .number) (written-short r buffer (h .0) (h .1))); zero = (full, λ h. ap (λ (w : Written). w .number) (written-full r buffer (h .0) (h .1))); of-run = of-run; place = place; len = λ e. let h = full e in ap (λ (w : Written). w .len) (written-full r buffer (h .0) (h .1)); after = λ e. let h = full e in after-full r buffer (h .0) (h .1) }
   where
     of-run : ¬ (Passed r) → (written r buffer .number ≡ verdict r .number) × (written r buffer .place ≡ verdict r .place)
     of-run n = let e = written-unchecked r buffer n in (ap (λ (w : Written). w .number) e, ap (λ (w : Written). w .place) e)
+
+    place : Passed r → written r buffer .place ≡ 0
+    place v = go (decLt (length buffer) (length (file r)))
+      where
+        go : Dec (length buffer < length (file r)) → written r buffer .place ≡ 0
+        go (yes h) = ap (λ (w : Written). w .place) (written-short r buffer v h)
+        go (no h) = ap (λ (w : Written). w .place) (written-full r buffer v (omega arith))
 
     -- the check refuses the run with another number, or the buffer's length tells
     passed-by : (k : ℕ) → 10 < k → written r buffer .number ≡ k → Dec (Passed r) → Passed r

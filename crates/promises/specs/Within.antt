@@ -21,6 +21,7 @@ use Rattle.due.specs.declared.Index.{Index}
 use Rattle.writer.specs.WrittenLaws.{written-unchecked, after-unchecked}
 use Rattle.promises.specs.Demand2.{SameWithin, Alike}
 use Rattle.promises.specs.SameVerdict.{sizes-told, same-verdict}
+use Rattle.promises.specs.SameSums.{within-sym}
 use Rattle.promises.specs.SameAnswer.{case-over}
 use Rattle.promises.specs.SameAverages.{averages-over}
 use Rattle.promises.specs.SameFile.{same-written, same-after}
@@ -40,11 +41,13 @@ module _ (r q : Run) (v : verdict r ≡ verdict q) (n : ¬ (verdict r .number �
   refused-averages (averages.no-run _ k) = averages.no-run n′ (k ∙ ap (λ (v : Verdict). averages.refused (v .number) (v .place)) v)
   refused-averages (averages.told z _ _ _ _ _) = absurd (n z)
 
-  refused-alike : Alike r q
-  refused-alike = record {
+refused-alike : (r q : Run) (v : verdict r ≡ verdict q) (n : ¬ (verdict r .number ≡ 0)) → Alike r q
+refused-alike r q v n =
+    let n′ : ¬ (verdict q .number ≡ 0) = λ z. n (ap (λ (v : Verdict). v .number) v ∙ z) in
+    record {
     check = v;
-    index = λ which a d. case-due (refused-case (due-case d));
-    averages = λ a d. refused-averages d;
+    index = λ which a. (λ d. case-due (refused-case r q v n (due-case d)), λ d. case-due (refused-case q r (sym v) n′ (due-case d)));
+    averages = λ a. (refused-averages r q v n, refused-averages q r (sym v) n′);
     written = λ buffer. written-unchecked r buffer n ∙ ap (λ (v : Verdict). record { number = v .number; place = v .place; len = 0 }) v ∙ sym (written-unchecked q buffer n′);
     after = λ buffer. after-unchecked r buffer n ∙ sym (after-unchecked q buffer n′);
   }
@@ -62,8 +65,8 @@ within-alike r q e = go (ℕ-discrete (verdict r .number) 0)
         let z′ : verdict q .number ≡ 0 = sym (ap (λ (v : Verdict). v .number) v) ∙ z in
         record {
           check = v;
-          index = λ which a d. case-due (case-over e z z′ (due-case d));
-          averages = λ a d. averages-over e z z′ d;
+          index = λ which a. (λ d. case-due (case-over e z z′ (due-case d)), λ d. case-due (case-over (within-sym e) z′ z (due-case d)));
+          averages = λ a. (averages-over e z z′, averages-over (within-sym e) z′ z);
           written = same-written e z z′;
           after = same-after e z z′;
         }

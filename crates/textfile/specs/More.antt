@@ -29,8 +29,9 @@ use Rattle.text_detail.specs.TextDetail.{nth-line, nth-said, body-detail}
 abbrev pub Refused : (s : List ℕ) → (number l : ℕ) → Type 0
 Refused s number l = given (text-refusals s) ≡ given-at number l
 
--- 42: the word told is a word of the line, or the line ends before it; the words in front of it fit, since some line that begins with them says a record or nothing; and no line that has that word too, behind the same words, does
+-- 42: the line is not understood. The word told is a word of it, or it ends before that word; the words in front of it fit, since some words that begin with them say a record or nothing; and none that have that word too, behind the same words, do
 pub record OddWord (s : List ℕ) (l : ℕ) : Type 0 where
+  pub unclear : said (words (nth-line s l)) ≡ Unclear
   pub told : let ws = words (nth-line s l) in
       ((odd-word ws < length ws) × (body-detail s ≡ Word (suc (odd-word ws)))) ⊎ ((odd-word ws ≡ length ws) × (body-detail s ≡ NoWord (suc (odd-word ws))))
   pub fits : let ws = words (nth-line s l) in

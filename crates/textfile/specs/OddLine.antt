@@ -119,7 +119,7 @@ pub of-42-holds : (s : List ℕ) (l : ℕ) → Refused s 42 l → OddWord s l
 of-42-holds s l e =
     let ws = words (nth-line s l) in
     let u : said ws ≡ Unclear = said-at s (l - 1) ∙ unclear-said (heard s) l (told-by s 42 l (λ q. omega arith) (λ q. omega arith) e) in
-    record { told = which (decLt (odd-word ws) (length ws)); fits = odd-fits ws; why = λ vs long alike. said-odd ws vs u long alike }
+    record { unclear = u; told = which (decLt (odd-word ws) (length ws)); fits = odd-fits ws; why = λ vs long alike. said-odd ws vs u long alike }
   where
     is : body-detail s ≡ odd (words (nth-line s l))
     is = ap (detail-at s) e
