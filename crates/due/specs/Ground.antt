@@ -5,7 +5,7 @@ use Prim.Native.Nat.{ℕ, _*_, _<_, _≤_}
 use lib.IntN.{pos, natAbs}
 use lib.Signed.{_≤ℤ_}
 use Rattle.exact.specs.Value.{Made, nought}
-use Rattle.exact.specs.Rounding.{Nearest}
+use Rattle.exact.specs.Rounding.{Nearest, Told}
 use Rattle.run.specs.Checks.{verdict}
 use Rattle.run.specs.declared.Run.{Run}
 use Rattle.band.specs.Line.{Line}
@@ -34,6 +34,7 @@ pub record ShownParts (b : Based) (span : ℕ) (s : Shown) : Type 0 where
   pub sloping : (b .a ≡ pos 0 → ⊥) → s .number ≡ 0
   pub index : Made (b .num) (b .unit * (natAbs (b .a) * span)) (s .index)
   pub thousandths : Nearest (100000 * natAbs (s .index .num)) (s .index .den) (s .thousandths)
+  pub told : Told (s .index)
 
 pub record LineParts (b : Based) (l : Ruled) : Type 0 where
   pub slope : Made (b .a) (b .q) (l .slope)

@@ -9,6 +9,7 @@ use lib.Dec.{T}
 use lib.IntN.{ℤ, pos, natAbs, _*ℤ_}
 use Rattle.whole.specs.Sign.{nat-nonneg}
 use Rattle.exact.specs.Value.{Made, nought}
+use Rattle.exact.specs.Rounding.{Told}
 use Rattle.exact.specs.Exists.{some-made}
 use Rattle.run.specs.Checks.{verdict}
 use Rattle.run.specs.Checked.{checked}
@@ -98,6 +99,18 @@ ground-answer which r (ground.Refused k) {a} d p =
     (λ e. case-due (below-zero (d .0) (e .1) (p ∙ ap (λ (n : ℕ). refused n 0) (e .0))))
     (λ e. case-due (one-cycle (d .0) (e .1) (e .2) (p ∙ ap (λ (n : ℕ). refused n 0) (e .0))))
     (d .1)
+
+-- and its index may be told in thousandths of one percent
+nought-told : Told nought
+nought-told = record { sign = record { le = tt }; size = omega arith; den = omega arith }
+
+pub ground-told : (g : Ground) (span : ℕ) {a : Answer} → AnswerBy g span a → Told (a .index)
+ground-told (ground.Line b) span p = p .shows .told
+ground-told (ground.Several h) span p = subst Told (sym (ap (λ (a : Answer). a .index) (p .1))) nought-told
+ground-told (ground.Refused k) span p = subst Told (sym (ap (λ (a : Answer). a .index) p)) nought-told
+
+pub refused-told : (number place : ℕ) {a : Answer} → a ≡ refused number place → Told (a .index)
+refused-told number place e = subst Told (sym (ap (λ (a : Answer). a .index) e)) nought-told
 
 -- ---- what is shown is shown of the answer that is due
 pub record ShownDue (which : Index) (r : Run) (s : Shown) : Type 0 where

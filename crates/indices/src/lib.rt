@@ -1,5 +1,6 @@
 // The nine indices of a run.
 ghost use mathlib.Core.Path.{_≡_};
+ghost use Rattle.exact.specs.Rounding.{Told};
 ghost use Rattle.run.specs.Run.{lent, group};
 ghost use Rattle.run.specs.Checks.{verdict};
 ghost use Rattle.groups.specs.Limit.{BothLimits};
@@ -96,7 +97,8 @@ fn ground_of(which: Index, m: usize, n: usize, x: &[i64; 11], y: &[i64; 220]) ->
 
 // An index of the run that lent counts stand for.
 fn index_over(which: Index, m: usize, n: usize, x: &[i64; 11], y: &[i64; 220]) -> Answer
-    ensures { λ a. ⌜ Due which (lent m n (now (x .entry)) (now (y .entry))) a ⌝ }
+    ensures due { λ a. ⌜ Due which (lent m n (now (x .entry)) (now (y .entry))) a ⌝ }
+    ensures told { λ a. ⌜ Told (a .index) ⌝ }
 {
     let v = run::check_over(m, n, x, y);
     if v.number != 0 {
@@ -108,7 +110,8 @@ fn index_over(which: Index, m: usize, n: usize, x: &[i64; 11], y: &[i64; 220]) -
 
 // An index of any run. Its counts are taken out once.
 pub fn index_of(which: Index, r: Run) -> Answer
-    ensures { λ a. ⌜ Due which r a ⌝ }
+    ensures due { λ a. ⌜ Due which r a ⌝ }
+    ensures told { λ a. ⌜ Told (a .index) ⌝ }
 {
     let inputs = r.x;
     let readings = r.y;

@@ -12,6 +12,7 @@ use Rattle.whole.specs.Ring.{ring}
 use Rattle.whole.specs.Sign.{NonNeg, nonneg-mul, nonneg-nat, positive-nat, cancel-le}
 use Rattle.whole.specs.Machine.{stored, stored-is}
 use Rattle.exact.specs.Value.{Made}
+use Rattle.exact.specs.Rounding.{Told}
 use Rattle.exact.specs.declared.Fraction.{Fraction}
 use Rattle.due.proofs.shown_line.Statement.{statement}
 use Rattle.due.proofs.shown_line.Tie as tie
@@ -67,9 +68,9 @@ made c =
     subst (λ (a : ℕ). Made (b .num) (b .unit * (a * s .args .span)) (c .lowest .result)) (sized l)
     (subst (λ (z : ℤ). Made z (b .unit * (l .size .result * s .args .span)) (c .lowest .result)) n (c .lowest .ensures .0))
 
-percent-of-requires : tie.Need-percent-of-requires
-percent-of-requires c κs =
-    let l = c .before in
+-- its thousandths may be told
+may-tell : (l : tie.After-lowest) → Told (l .lowest .result)
+may-tell l =
     let s = start l in
     let b = s .args .b in
     let n : stored (b .num) ≡ b .num = stored-is (b .num) 184467440737095 (s .pre .0 .num-most) tt in
@@ -78,6 +79,9 @@ percent-of-requires c κs =
       size = omega (arith, l .lowest .ensures .1 .num, ap natAbs n, s .pre .0 .num-most);
       den = made l .lowest .positive;
     }
+
+percent-of-requires : tie.Need-percent-of-requires
+percent-of-requires c κs = may-tell (c .before)
 
 returns : tie.Need-returns
 returns c =
@@ -90,6 +94,7 @@ returns c =
       sloping = λ n. ⊎-elim (λ w. absurd (n (no-size (b .a) (sym a ∙ w .0 .taken)))) (λ w. w .1) (j .if1 .came);
       index = made l;
       thousandths = c .percent-of .ensures;
+      told = may-tell l;
     }
 
 pub shown-line-spec : {M : Type 1} → statement M

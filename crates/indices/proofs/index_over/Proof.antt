@@ -11,7 +11,7 @@ use Prim.Native.Nat.{ℕ}
 use Rattle.due.specs.Due.{refused}
 use Rattle.due.specs.Cases.{no-run, case-due}
 use Rattle.due.specs.Ground.{AnswerBy}
-use Rattle.due.specs.GroundLaws.{ground-ready, ground-answer}
+use Rattle.due.specs.GroundLaws.{ground-ready, ground-answer, ground-told, refused-told}
 use Rattle.grounds.specs.Basis.{spanned, span-is}
 use Rattle.indices.proofs.index_over.Statement.{statement}
 use Rattle.indices.proofs.index_over.Tie as tie
@@ -34,7 +34,7 @@ returns c =
     let t = c .before in
     let k = t .before .before in
     let v : k .check-over .result ≡ verdict (run (k .before)) = k .check-over .ensures in
-    case-due (no-run (λ e. t .if1 .taken (ap (λ (v : Verdict). v .number) v ∙ e)) (c .refuse .ensures ∙ ap (λ (v : Verdict). refused (v .number) (v .place)) v))
+    (case-due (no-run (λ e. t .if1 .taken (ap (λ (v : Verdict). v .number) v ∙ e)) (c .refuse .ensures ∙ ap (λ (v : Verdict). refused (v .number) (v .place)) v)), refused-told _ _ (c .refuse .ensures))
 
 ground-of-requires : tie.Need-ground-of-requires
 ground-of-requires c κs = fine c
@@ -59,7 +59,10 @@ returns-2 c =
     let s = g .before .before .before .before in
     let a = s .args in
     let e = p .span-of .ensures .0 ∙ span-is (a .m) (a .n) (a .x .now) (a .y .now) in
-    ground-answer (a .which) (run s) (g .ground-of .result) (g .ground-of .ensures) (subst (λ (n : ℕ). AnswerBy (g .ground-of .result) n (c .answer-of .result)) e (c .answer-of .ensures))
+    (
+      ground-answer (a .which) (run s) (g .ground-of .result) (g .ground-of .ensures) (subst (λ (n : ℕ). AnswerBy (g .ground-of .result) n (c .answer-of .result)) e (c .answer-of .ensures)),
+      ground-told (g .ground-of .result) _ (c .answer-of .ensures),
+    )
 
 pub index-over-spec : {M : Type 1} → statement M
 index-over-spec = tie.close (tie.spec check-over-requires refuse-requires returns ground-of-requires span-of-requires answer-of-requires returns-2)
