@@ -104,13 +104,13 @@ ground-answer which r (ground.Refused k) {a} d p =
 nought-told : Told nought
 nought-told = record { sign = record { le = tt }; size = omega arith; den = omega arith }
 
-pub ground-told : (g : Ground) (span : ℕ) {a : Answer} → AnswerBy g span a → Told (a .index)
-ground-told (ground.Line b) span p = p .shows .told
-ground-told (ground.Several h) span p = subst Told (sym (ap (λ (a : Answer). a .index) (p .1))) nought-told
-ground-told (ground.Refused k) span p = subst Told (sym (ap (λ (a : Answer). a .index) p)) nought-told
+pub ground-told : (g : Ground) (span : ℕ) (a : Answer) → AnswerBy g span a → Told (a .index)
+ground-told (ground.Line b) span a p = p .shows .told
+ground-told (ground.Several h) span a p = subst Told (sym (ap (λ (a : Answer). a .index) (p .1))) nought-told
+ground-told (ground.Refused k) span a p = subst Told (sym (ap (λ (a : Answer). a .index) p)) nought-told
 
-pub refused-told : (number place : ℕ) {a : Answer} → a ≡ refused number place → Told (a .index)
-refused-told number place e = subst Told (sym (ap (λ (a : Answer). a .index) e)) nought-told
+pub refused-told : (number place : ℕ) (a : Answer) → a ≡ refused number place → Told (a .index)
+refused-told number place a e = subst Told (sym (ap (λ (a : Answer). a .index) e)) nought-told
 
 -- ---- what is shown is shown of the answer that is due
 pub record ShownDue (which : Index) (r : Run) (s : Shown) : Type 0 where

@@ -34,7 +34,7 @@ returns c =
     let t = c .before in
     let k = t .before .before in
     let v : k .check-over .result ≡ verdict (run (k .before)) = k .check-over .ensures in
-    (case-due (no-run (λ e. t .if1 .taken (ap (λ (v : Verdict). v .number) v ∙ e)) (c .refuse .ensures ∙ ap (λ (v : Verdict). refused (v .number) (v .place)) v)), refused-told _ _ (c .refuse .ensures))
+    (case-due (no-run (λ e. t .if1 .taken (ap (λ (v : Verdict). v .number) v ∙ e)) (c .refuse .ensures ∙ ap (λ (v : Verdict). refused (v .number) (v .place)) v)), refused-told _ _ (c .refuse .result) (c .refuse .ensures))
 
 ground-of-requires : tie.Need-ground-of-requires
 ground-of-requires c κs = fine c
@@ -61,7 +61,7 @@ returns-2 c =
     let e = p .span-of .ensures .0 ∙ span-is (a .m) (a .n) (a .x .now) (a .y .now) in
     (
       ground-answer (a .which) (run s) (g .ground-of .result) (g .ground-of .ensures) (subst (λ (n : ℕ). AnswerBy (g .ground-of .result) n (c .answer-of .result)) e (c .answer-of .ensures)),
-      ground-told (g .ground-of .result) _ (c .answer-of .ensures),
+      ground-told (g .ground-of .result) _ (c .answer-of .result) (c .answer-of .ensures),
     )
 
 pub index-over-spec : {M : Type 1} → statement M
