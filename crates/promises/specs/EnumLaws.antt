@@ -1,12 +1,15 @@
 -- What the functions answer of the points of a run is what stands under its index: `SameAnswers` holds of every run that no check refuses.
 use mathlib.Core.Path.{_≡_, refl, sym, ap, _∙_, subst}
+use mathlib.Core.Bool.{cond}
 use mathlib.Core.List.{List, map}
 use mathlib.Core.Option.{some}
 use Prim.Native.Nat.{ℕ, _*_, _<_, _≤_}
 use native.Mathlib.Omega.{arith}
-use lib.Dec.{T}
+use borrow.Author.Tests.{lt-ltb, le-ltb}
+use lib.Dec.{T, ltb}
 use lib.IntN.{ℤ, pos, natAbs}
 use lib.ListN.{getD}
+use Rattle.whole.specs.Flags.{cond-yes, cond-no}
 use Rattle.exact.specs.Rounding.{Nearest, Told, PercentDue}
 use Rattle.exact.specs.RoundingLaws.{some-nearest}
 use Rattle.exact.specs.Once.{one-percent}
@@ -40,7 +43,7 @@ use Rattle.due.specs.GroundLaws.{plainly, cycles-two}
 use Rattle.due.specs.declared.Answer.{Answer}
 use Rattle.due.specs.declared.Index.{Index}
 use Rattle.due.specs.declared.Index.the-variants as index
-use Rattle.promises.specs.Enums.{lined, as-lined, as-thousandths, Arrays, SameAnswers}
+use Rattle.promises.specs.Enums.{lined, as-lined, as-thousandths, Eleven, Arrays, SameAnswers}
 use Rattle.promises.specs.DrawnLaws.{line-is, width-is}
 
 -- what stands under an index is what d is in the paper's table
@@ -129,21 +132,27 @@ module _ (r : Run) (e : verdict r .number ≡ 0) where
   front P s drawn.Improper b a due = absurd (b (points s) (level s))
 
 -- ---- arrays with the points of a run
--- the first 11 of f
-abbrev table : (ℕ → ℤ) → List ℤ
-table f = map f (rising 11)
+-- f below m, and zero from there on
+abbrev below : ℕ → (ℕ → ℤ) → ℕ → ℤ
+below m f i = cond (ltb i m) (f i) (pos 0)
+
+abbrev table : ℕ → (ℕ → ℤ) → List ℤ
+table m f = map (below m f) (rising 11)
+
+table-eleven : (m : ℕ) (f : ℕ → ℤ) → Eleven m (table m f)
+table-eleven m f = (length-table 11 (below m f), λ i h b. table-at 11 (below m f) i (pos 0) b ∙ sym (cond-no (f i) (le-ltb i m h) refl))
+
+table-within : (m : ℕ) (f : ℕ → ℤ) → m ≤ 11 → (i : ℕ) → i < m → getD (table m f) i (pos 0) ≡ f i
+table-within m f most i h = table-at 11 (below m f) i (pos 0) (omega (arith, most)) ∙ sym (cond-yes (pos 0) (lt-ltb i m h) refl)
 
 -- points of no more than 11 inputs stand in such tables
-tabled : (P : Points) → P .m ≤ 11 → Arrays P (table (P .x)) (table (P .low)) (table (P .high))
+tabled : (P : Points) → P .m ≤ 11 → Arrays P (table (P .m) (P .x)) (table (P .m) (P .low)) (table (P .m) (P .high))
 tabled P most = record {
-  x-long = length-table 11 (P .x);
-  low-long = length-table 11 (P .low);
-  high-long = length-table 11 (P .high);
-  same = record { m = refl; d = refl; x = at (P .x); low = at (P .low); high = at (P .high) };
+  inputs = table-eleven (P .m) (P .x);
+  lows = table-eleven (P .m) (P .low);
+  highs = table-eleven (P .m) (P .high);
+  same = record { m = refl; d = refl; x = table-within (P .m) (P .x) most; low = table-within (P .m) (P .low) most; high = table-within (P .m) (P .high) most };
 }
-  where
-    at : (f : ℕ → ℤ) (i : ℕ) → i < P .m → getD (table f) i (pos 0) ≡ f i
-    at f i h = table-at 11 f i (pos 0) (omega (arith, most))
 
 -- ---- thousandths
 -- those of an answer are its index rounded; where no index stands it is 0/1, to which 0 is nearest

@@ -5,10 +5,10 @@ use mathlib.Core.Path.{_≡_}
 use mathlib.Core.Bool.{cond}
 use mathlib.Core.List.{List}
 use mathlib.Core.Option.{Option, none, some}
-use Prim.Native.Nat.{ℕ}
+use Prim.Native.Nat.{ℕ, _<_, _≤_}
 use lib.Dec.{eqb}
-use lib.IntN.{ℤ, natAbs}
-use lib.ListN.{length}
+use lib.IntN.{ℤ, pos, natAbs}
+use lib.ListN.{length, getD}
 use Rattle.exact.specs.Value.{nought}
 use Rattle.exact.specs.Rounding.{Told, PercentDue}
 use Rattle.exact.specs.declared.Fraction.{Fraction}
@@ -54,11 +54,15 @@ as-thousandths (Thousandths t) = some t
 as-thousandths Untold = none
 
 -- ---- the arrays
--- arrays of 11 numbers, as the functions are lent them, with the points P: the inputs, and at each the lowest and the highest value
+-- 11 numbers, of which all behind the first m are zero
+abbrev pub Eleven : ℕ → List ℤ → Type 0
+Eleven m l = (length l ≡ 11) × ((i : ℕ) → m ≤ i → i < 11 → getD l i (pos 0) ≡ pos 0)
+
+-- arrays with the points P: the inputs, and at each the lowest and the highest value. Zeros behind them, so that no number is larger than those of the points, and a function can be lent the arrays wherever P is `Admitted`
 pub record Arrays (P : Points) (x low high : List ℤ) : Type 0 where
-  pub x-long : length x ≡ 11
-  pub low-long : length low ≡ 11
-  pub high-long : length high ≡ 11
+  pub inputs : Eleven (P .m) x
+  pub lows : Eleven (P .m) low
+  pub highs : Eleven (P .m) high
   pub same : SamePoints (lent (P .m) (P .d) x low high) P
 
 -- ---- of a run that no check refuses: what the functions answer of its points is what stands under its index
