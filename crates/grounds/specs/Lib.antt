@@ -1,6 +1,5 @@
 pub mod Basis
 pub mod Found
-pub mod SameLine
 pub mod FoundLaws
 pub mod LineLaws
 pub mod WidthLaws

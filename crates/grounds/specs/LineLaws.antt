@@ -1,11 +1,9 @@
 -- What `fit` and `pin` find past a run's points is what the index of that line stands on; and when 15 is due.
-use mathlib.Core.Path.{_≡_, refl, sym, subst}
+use mathlib.Core.Path.{_≡_, refl}
 use mathlib.Core.Logic.{inl}
-use Prim.Native.Nat.{_<_}
 use native.Mathlib.Omega.{arith}
 use lib.IntN.{pos}
 use lib.Signed.{_<ℤ_}
-use Rattle.whole.specs.Sign.{NonNeg}
 use Rattle.run.specs.Run.{input}
 use Rattle.run.specs.Checks.{verdict}
 use Rattle.run.specs.Checked.{checked}
@@ -19,18 +17,17 @@ use Rattle.fit.specs.Once.{level-single}
 use Rattle.fit.specs.Plot.{CourseDue, PlotDue}
 use Rattle.fit.specs.declared.Course.{Course}
 use Rattle.fit.specs.declared.Plotted.{Plotted}
-use Rattle.pin.specs.Answer.{NoNegative, ZeroDue, FrontDue}
+use Rattle.pin.specs.Answer.{ZeroDue, FrontDue}
 use Rattle.bands.specs.Through.{means, strokes, limit-points}
 use Rattle.bands.specs.Parts.{SamePoints}
-use Rattle.bands.specs.Transfer.{same-points-sym, largest-points, terminal-points, zero-points, front-points}
+use Rattle.bands.specs.Transfer.{largest-points, terminal-points}
 use Rattle.due.specs.Due.{BelowZero}
-use Rattle.due.specs.DueLaws.{below-first, not-negative, best-line, many-lines, best-same}
+use Rattle.due.specs.DueLaws.{below-first, best-line, many-lines, best-same, best-points, best-zero, many-zero, best-front}
 use Rattle.due.specs.Ground.{Answered, GroundDue}
 use Rattle.due.specs.GroundLaws.{plainly, cycles-two}
 use Rattle.due.specs.declared.Ground.the-variants as ground
 use Rattle.due.specs.declared.Index.the-variants as index
 use Rattle.grounds.specs.Found.{owned, stood}
-use Rattle.grounds.specs.SameLine.{best-points, many-points, best-family, many-family}
 use Rattle.grounds.specs.FoundLaws.{whole, whole-tells, whole-width, own-rests, plot-stands}
 
 -- ---- the terminal line and the shifted one
@@ -47,7 +44,7 @@ module _ {P : Points} (r : Run) {c : Course} (fine : verdict r .number ≡ 0) (e
         own-rests (t .line .told) (record {
           base = t .base;
           terminal = terminal-points e (omega (arith, checked r fine .m-least)) (t .terminal);
-          best = best-same (same-written refl refl refl) (t .line .member) (best-points e (t .line));
+          best = best-same (same-written refl refl refl) (t .line .member) (best-points e (best-line (t .line)));
         }),
       )
 
@@ -68,10 +65,7 @@ limits-stand r o = let k = cycles-two index.Lhr tt o in plot-stands o
     (λ c d. own-rests (d .1 .told) (with-found (checked r (o .fine)) k (best-line (d .1))))
     (λ h d. (o, d .1 .some, d .1 .sign, with-found (checked r (o .fine)) k (many-lines (d .1))))
 
--- ---- negative inputs
-pub points-not-negative : (P : Points) (r : Run) → (BelowZero index.Zero r → ⊥) → SamePoints P (means r) → NoNegative P
-points-not-negative P r none e i h = let k : i < r .m = omega (arith, e .m) in subst NonNeg (sym (e .x i k)) (not-negative none i k)
-
+-- ---- a negative input
 pub fifteen : (r : Run) → verdict r .number ≡ 0 → input r 0 <ℤ pos 0 → GroundDue index.Zero r (ground.Refused 15)
 fifteen r fine l = (fine, inl (refl, below-first (checked r fine) tt l))
 
@@ -81,12 +75,12 @@ module _ {P : Points} (r : Run) (fine : verdict r .number ≡ 0) (e : SamePoints
   zero-stands none =
       let o : Answered index.Zero r = record { fine = fine; from-zero = none; cycles = λ h. absurd (h .0) } in
       plot-stands o
-      (λ c d. own-rests (d .3 .told) (best-family (zero-points e) (zero-points (same-points-sym e)) (best-points e (d .3))))
-      (λ h d. (o, d .3 .some, d .3 .sign, many-family (zero-points e) (zero-points (same-points-sym e)) (many-points e (d .3))))
+      (λ c d. own-rests (d .3 .told) (best-zero e (best-line (d .3))))
+      (λ h d. (o, d .3 .some, d .3 .sign, many-zero e (many-lines (d .3))))
 
   pub front-stands : (p : Plotted) → PlotDue (FrontDue P) p → GroundDue index.Front r (stood p)
   front-stands =
       let m = checked r fine .m-least in
       plot-stands (plainly index.Front refl refl fine)
-      (λ c d. own-rests (d .2 .told) (best-family (front-points e (omega (arith, m))) (front-points (same-points-sym e) (omega (arith, m, e .m))) (best-points e (d .2))))
+      (λ c d. own-rests (d .2 .told) (best-front e (omega (arith, m)) (best-line (d .2))))
       (λ h d. absurd d)

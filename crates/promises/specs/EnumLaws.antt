@@ -1,10 +1,15 @@
 -- What the functions answer of the points of a run is what stands under its index: `SameAnswers` holds of every run that no check refuses.
-use mathlib.Core.Path.{_≡_, refl, sym, ap, subst}
+use mathlib.Core.Path.{_≡_, refl, sym, ap, _∙_, subst}
+use mathlib.Core.Bool.{cond}
+use mathlib.Core.List.{List, map}
 use mathlib.Core.Option.{some}
-use Prim.Native.Nat.{ℕ, _*_}
+use Prim.Native.Nat.{ℕ, _*_, _<_, _≤_}
 use native.Mathlib.Omega.{arith}
-use lib.Dec.{T}
-use lib.IntN.{natAbs}
+use borrow.Author.Tests.{lt-ltb, le-ltb}
+use lib.Dec.{T, ltb}
+use lib.IntN.{ℤ, pos, natAbs}
+use lib.ListN.{getD}
+use Rattle.whole.specs.Flags.{cond-yes, cond-no}
 use Rattle.exact.specs.Rounding.{Nearest, Told, PercentDue}
 use Rattle.exact.specs.RoundingLaws.{some-nearest}
 use Rattle.exact.specs.Once.{one-percent}
@@ -12,10 +17,12 @@ use Rattle.exact.specs.declared.Percent.{Percent}
 use Rattle.exact.specs.declared.Percent.the-variants.{Thousandths}
 use Rattle.run.specs.Checks.{verdict}
 use Rattle.run.specs.Checked.{Checked, checked}
+use Rattle.run.specs.Places.{rising}
+use Rattle.run.specs.WrittenOut.{length-table, table-at}
 use Rattle.run.specs.declared.Run.{Run}
 use Rattle.groups.specs.Cut.{LimitsOf}
 use Rattle.groups.specs.Rounded.{limits-agree, limits-found}
-use Rattle.band.specs.Line.{OneValue}
+use Rattle.band.specs.Line.{Points, OneValue}
 use Rattle.band.specs.Band.{Admitted}
 use Rattle.fit.specs.Answer.{BestDue, TerminalDue, ShiftedDue}
 use Rattle.fit.specs.Once.{level-single}
@@ -24,17 +31,19 @@ use Rattle.fit.specs.declared.Drawn.the-variants as drawn
 use Rattle.pin.specs.Answer.{ZeroDue, FrontDue}
 use Rattle.bands.specs.Through.{means, strokes, limit-points}
 use Rattle.bands.specs.Parts as lines
+use Rattle.bands.specs.Parts.{SamePoints}
+use Rattle.bands.specs.Transfer.{largest-points, terminal-points}
 use Rattle.bands.specs.Limited.{same-limit-points}
 use Rattle.bands.specs.Admitted.{admitted-through, admitted}
 use Rattle.due.specs.Due.{refused, from-zero, scatters, Due}
 use Rattle.due.specs.Cases.{several, one-line, Case, no-run, below-zero, one-cycle, given, due-case}
-use Rattle.due.specs.DueLaws.{not-negative, best-line, many-lines}
+use Rattle.due.specs.DueLaws.{points-not-negative, best-line, many-lines, best-points, many-points, best-zero, many-zero, best-front}
 use Rattle.due.specs.Ground.{Answered}
 use Rattle.due.specs.GroundLaws.{plainly, cycles-two}
 use Rattle.due.specs.declared.Answer.{Answer}
 use Rattle.due.specs.declared.Index.{Index}
 use Rattle.due.specs.declared.Index.the-variants as index
-use Rattle.promises.specs.Enums.{lined, as-lined, as-thousandths, SameAnswers}
+use Rattle.promises.specs.Enums.{lined, as-lined, as-thousandths, Eleven, Arrays, SameAnswers}
 use Rattle.promises.specs.DrawnLaws.{line-is, width-is}
 
 -- what stands under an index is what d is in the paper's table
@@ -55,66 +64,95 @@ module _ (r : Run) (e : verdict r .number ≡ 0) where
   answered z s (one-cycle _ _ o q) = absurd (s (o .0) (number-is q))
   answered z s (given v n o _) = record { fine = v; from-zero = n; cycles = o }
 
-  -- the means have one value at each input, and are admitted
-  level : OneValue (means r)
-  level i h = refl
+  some-point : 0 < r .m
+  some-point = omega (arith, c .m-least)
 
-  points : Admitted (means r)
-  points = admitted-through c lines.Means
+  -- ---- points that are the same as the means have one value at each input, and are admitted
+  module _ {P : Points} (s : SamePoints P (means r)) where
+    level : OneValue P
+    level i h = let k : i < r .m = omega (arith, s .m) in s .low i k ∙ sym (s .high i k)
+
+    points : Admitted P
+    points = admitted (admitted-through c lines.Means) s
 
   -- ---- the best lines
-  independent : (d : Drawn) → BestDue (means r) d → StandsUnder index.Independent r d
-  independent (drawn.Line f) b a due = line-is (plainly index.Independent refl refl e) due (b .1 .told) (best-line (b .1))
-  independent (drawn.Several h) b a due = absurd (level-single (means r) level h b)
-  independent drawn.Improper b a due = absurd (b points)
+  independent : (P : Points) → SamePoints P (means r) → (d : Drawn) → BestDue P d → StandsUnder index.Independent r d
+  independent P s (drawn.Line f) b a due = line-is (plainly index.Independent refl refl e) due (b .1 .told) (best-points s (best-line (b .1)))
+  independent P s (drawn.Several h) b a due = absurd (level-single P (level s) h b)
+  independent P s drawn.Improper b a due = absurd (b (points s))
 
-  lh : (d : Drawn) → BestDue (strokes r) d → StandsUnder index.Lh r d
-  lh (drawn.Line f) b a due = line-is (plainly index.Lh refl refl e) due (b .1 .told) (best-line (b .1))
-  lh (drawn.Several h) b a due = width-is (plainly index.Lh refl refl e) due (b .1) (many-lines (b .1))
-  lh drawn.Improper b a due = absurd (b (admitted-through c lines.Strokes))
+  lh : (P : Points) → SamePoints P (strokes r) → (d : Drawn) → BestDue P d → StandsUnder index.Lh r d
+  lh P s (drawn.Line f) b a due = line-is (plainly index.Lh refl refl e) due (b .1 .told) (best-points s (best-line (b .1)))
+  lh P s (drawn.Several h) b a due = width-is (plainly index.Lh refl refl e) due (b .1) (many-points s (many-lines (b .1)))
+  lh P s drawn.Improper b a due = absurd (b (admitted (admitted-through c lines.Strokes) s))
 
   -- limits that are rounded up are those that the search finds, so the points are the same
   limit-points-admitted : {k : ℕ → ℕ → ℕ} → LimitsOf r k → Answered index.Lhr r → Admitted (limit-points r k)
   limit-points-admitted l o = admitted (admitted-through c lines.Limits) (same-limit-points r (limits-agree r l (limits-found c (cycles-two index.Lhr tt o))))
 
-  lhr : (k : ℕ → ℕ → ℕ) → LimitsOf r k → (d : Drawn) → BestDue (limit-points r k) d → (a : Answer) → Due index.Lhr r a → ¬ (a .number ≡ 13) → as-lined d ≡ some (lined a)
-  lhr k l d b a due more = go d b
+  lhr : (k : ℕ → ℕ → ℕ) → LimitsOf r k → (P : Points) → SamePoints P (limit-points r k) → (d : Drawn) → BestDue P d → (a : Answer) → Due index.Lhr r a → ¬ (a .number ≡ 13) → as-lined d ≡ some (lined a)
+  lhr k l P s d b a due more = go d b
     where
       o : Answered index.Lhr r
       o = answered (λ t. absurd t) (λ _. more) (due-case due)
 
-      go : (d : Drawn) → BestDue (limit-points r k) d → as-lined d ≡ some (lined a)
-      go (drawn.Line f) b = line-is o due (b .1 .told) (record { k = k; limits = l; holds = best-line (b .1) })
-      go (drawn.Several h) b = width-is o due (b .1) (record { k = k; limits = l; holds = many-lines (b .1) })
-      go drawn.Improper b = absurd (b (limit-points-admitted l o))
+      go : (d : Drawn) → BestDue P d → as-lined d ≡ some (lined a)
+      go (drawn.Line f) b = line-is o due (b .1 .told) (record { k = k; limits = l; holds = best-points s (best-line (b .1)) })
+      go (drawn.Several h) b = width-is o due (b .1) (record { k = k; limits = l; holds = many-points s (many-lines (b .1)) })
+      go drawn.Improper b = absurd (b (admitted (limit-points-admitted l o) s))
 
   -- ---- the terminal line and the shifted one
-  terminal : (d : Drawn) → TerminalDue (means r) d → StandsUnder index.Terminal r d
-  terminal (drawn.Line f) b a due = line-is (plainly index.Terminal refl refl e) due (b .2 .told) (b .2 .ends, b .2 .largest)
-  terminal (drawn.Several h) b a due = absurd b
-  terminal drawn.Improper b a due = absurd (b points level)
+  terminal : (P : Points) → SamePoints P (means r) → (d : Drawn) → TerminalDue P d → StandsUnder index.Terminal r d
+  terminal P s (drawn.Line f) b a due = line-is (plainly index.Terminal refl refl e) due (b .2 .told) (terminal-points s some-point (b .2 .ends), largest-points s (b .2 .largest))
+  terminal P s (drawn.Several h) b a due = absurd b
+  terminal P s drawn.Improper b a due = absurd (b (points s) (level s))
 
-  shifted : (d : Drawn) → ShiftedDue (means r) d → StandsUnder index.Shifted r d
-  shifted (drawn.Line f) b a due = line-is (plainly index.Shifted refl refl e) due (b .2 .line .told) (record { base = b .2 .base; terminal = b .2 .terminal; best = best-line (b .2 .line) })
-  shifted (drawn.Several h) b a due = absurd b
-  shifted drawn.Improper b a due = absurd (b points level)
+  shifted : (P : Points) → SamePoints P (means r) → (d : Drawn) → ShiftedDue P d → StandsUnder index.Shifted r d
+  shifted P s (drawn.Line f) b a due =
+      line-is (plainly index.Shifted refl refl e) due (b .2 .line .told)
+      (record { base = b .2 .base; terminal = terminal-points s some-point (b .2 .terminal); best = best-points s (best-line (b .2 .line)) })
+  shifted P s (drawn.Several h) b a due = absurd b
+  shifted P s drawn.Improper b a due = absurd (b (points s) (level s))
 
   -- ---- the lines through a fixed point
-  zero : (d : Drawn) → ZeroDue (means r) d → (a : Answer) → Due index.Zero r a → ¬ (a .number ≡ 15) → as-lined d ≡ some (lined a)
-  zero d b a due none = go d b
+  zero : (P : Points) → SamePoints P (means r) → (d : Drawn) → ZeroDue P d → (a : Answer) → Due index.Zero r a → ¬ (a .number ≡ 15) → as-lined d ≡ some (lined a)
+  zero P s d b a due none = go d b
     where
       o : Answered index.Zero r
       o = answered (λ _. none) (λ t. absurd t) (due-case due)
 
-      go : (d : Drawn) → ZeroDue (means r) d → as-lined d ≡ some (lined a)
-      go (drawn.Line f) b = line-is o due (b .3 .told) (best-line (b .3))
-      go (drawn.Several h) b = width-is o due (b .3) (many-lines (b .3))
-      go drawn.Improper b = absurd (b points level (not-negative (o .from-zero)))
+      go : (d : Drawn) → ZeroDue P d → as-lined d ≡ some (lined a)
+      go (drawn.Line f) b = line-is o due (b .3 .told) (best-zero s (best-line (b .3)))
+      go (drawn.Several h) b = width-is o due (b .3) (many-zero s (many-lines (b .3)))
+      go drawn.Improper b = absurd (b (points s) (level s) (points-not-negative P r (o .from-zero) s))
 
-  front : (d : Drawn) → FrontDue (means r) d → StandsUnder index.Front r d
-  front (drawn.Line f) b a due = line-is (plainly index.Front refl refl e) due (b .2 .told) (best-line (b .2))
-  front (drawn.Several h) b a due = absurd b
-  front drawn.Improper b a due = absurd (b points level)
+  front : (P : Points) → SamePoints P (means r) → (d : Drawn) → FrontDue P d → StandsUnder index.Front r d
+  front P s (drawn.Line f) b a due = line-is (plainly index.Front refl refl e) due (b .2 .told) (best-front s some-point (best-line (b .2)))
+  front P s (drawn.Several h) b a due = absurd b
+  front P s drawn.Improper b a due = absurd (b (points s) (level s))
+
+-- ---- arrays with the points of a run
+-- f below m, and zero from there on
+abbrev below : ℕ → (ℕ → ℤ) → ℕ → ℤ
+below m f i = cond (ltb i m) (f i) (pos 0)
+
+abbrev table : ℕ → (ℕ → ℤ) → List ℤ
+table m f = map (below m f) (rising 11)
+
+table-eleven : (m : ℕ) (f : ℕ → ℤ) → Eleven m (table m f)
+table-eleven m f = (length-table 11 (below m f), λ i h b. table-at 11 (below m f) i (pos 0) b ∙ sym (cond-no (f i) (le-ltb i m h) refl))
+
+table-within : (m : ℕ) (f : ℕ → ℤ) → m ≤ 11 → (i : ℕ) → i < m → getD (table m f) i (pos 0) ≡ f i
+table-within m f most i h = table-at 11 (below m f) i (pos 0) (omega (arith, most)) ∙ sym (cond-yes (pos 0) (lt-ltb i m h) refl)
+
+-- points of no more than 11 inputs stand in such tables
+tabled : (P : Points) → P .m ≤ 11 → Arrays P (table (P .m) (P .x)) (table (P .m) (P .low)) (table (P .m) (P .high))
+tabled P most = record {
+  inputs = table-eleven (P .m) (P .x);
+  lows = table-eleven (P .m) (P .low);
+  highs = table-eleven (P .m) (P .high);
+  same = record { m = refl; d = refl; x = table-within (P .m) (P .x) most; low = table-within (P .m) (P .low) most; high = table-within (P .m) (P .high) most };
+}
 
 -- ---- thousandths
 -- those of an answer are its index rounded; where no index stands it is 0/1, to which 0 is nearest
@@ -145,4 +183,7 @@ same-answers r e = record {
   lh = lh r e;
   lhr = lhr r e;
   thousandths = λ which a. thousandths which r a;
+  lent-means = (_, (_, tabled (means r) (checked r e .m-most)));
+  lent-strokes = (_, (_, (_, tabled (strokes r) (checked r e .m-most))));
+  lent-limits = λ k l. (_, (_, (_, tabled (limit-points r k) (checked r e .m-most))));
 }

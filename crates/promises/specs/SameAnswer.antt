@@ -10,14 +10,13 @@ use Rattle.run.specs.Checks.{verdict}
 use Rattle.run.specs.Checked.{checked}
 use Rattle.run.specs.declared.Run.{Run}
 use Rattle.groups.specs.Cut.{WithLimits}
-use Rattle.band.specs.Line.{Line, Points}
-use Rattle.fit.specs.Scaled.{least-family, single-family, several-family}
+use Rattle.band.specs.Line.{Line}
 use Rattle.bands.specs.Through.{means, LargestOf}
 use Rattle.bands.specs.Parts.{SamePoints}
-use Rattle.bands.specs.Transfer.{same-points-sym, largest-points, zero-points, front-points, terminal-points}
+use Rattle.bands.specs.Transfer.{largest-points, terminal-points}
 use Rattle.bands.specs.Limited.{largest-agree}
-use Rattle.due.specs.Due.{Best, Independent, Fits, Many, SeveralFit, BelowZero, OneCycle, span, Stands}
-use Rattle.due.specs.DueLaws.{best-points, many-points}
+use Rattle.due.specs.Due.{Independent, Fits, SeveralFit, BelowZero, OneCycle, span, Stands}
+use Rattle.due.specs.DueLaws.{best-points, many-points, best-zero, many-zero, best-front}
 use Rattle.due.specs.Cases.{Given, several, one-line, Case, no-run, below-zero, one-cycle, given}
 use Rattle.due.specs.declared.Answer.{Answer}
 use Rattle.due.specs.declared.Index.{Index}
@@ -25,21 +24,10 @@ use Rattle.due.specs.declared.Index.the-variants as index
 use Rattle.promises.specs.Demand2.{SameWithin}
 use Rattle.promises.specs.SameSums.{within-sym, limits-over, means-same, strokes-same, limit-points-same, swing-same}
 
--- ---- the same lines, said in two ways
-module _ {F G : Line → Type 0} (to : (L : Line) → F L → G L) (from : (L : Line) → G L → F L) {P : Points} {w z : ℕ} where
-  best-family : {L : Line} → Best F P L w z → Best G P L w z
-  best-family {L} b = record { member = to L (b .member); reached = b .reached; least = least-family to from (b .least); single = single-family to from (b .single) }
-
-  many-family : Many F P w z → Many G P w z
-  many-family m = record { least = least-family to from (m .least); several = several-family to (m .several) }
-
 -- ---- lines and widths
 module _ {r q : Run} (e : SameWithin r q) (some : 0 < q .m) where
   there : SamePoints (means r) (means q)
   there = means-same e
-
-  back : SamePoints (means q) (means r)
-  back = same-points-sym there
 
   independent-over : {L : Line} → Independent r L → Independent q L
   independent-over i = record { w = i .w; z = i .z; best = best-points there (i .best) }
@@ -54,8 +42,8 @@ module _ {r q : Run} (e : SameWithin r q) (some : 0 < q .m) where
   fits-over index.Terminal L w z f = (terminal-points there some (f .0), largest-points there (f .1))
   fits-over index.Shifted L w z f = record { base = f .base; terminal = terminal-points there some (f .terminal); best = best-points there (f .best) }
   fits-over index.Independent L w z f = best-points there f
-  fits-over index.Zero L w z f = best-family (zero-points there) (zero-points back) (best-points there f)
-  fits-over index.Front L w z f = best-family (front-points there some) (front-points back (omega (arith, e .m))) (best-points there f)
+  fits-over index.Zero L w z f = best-zero there f
+  fits-over index.Front L w z f = best-front there some f
   fits-over index.Hysteresis L w z f = (independent-over (f .0), largest-over (swing-same e) (f .1), f .2 ∙ e .n)
   fits-over index.Repeatability L w z f = (independent-over (f .0), with-limits-over (λ k l. largest-over (λ i h. refl) l) (f .1), f .2 ∙ e .n)
   fits-over index.Lh L w z f = best-points (strokes-same e) f
@@ -65,7 +53,7 @@ module _ {r q : Run} (e : SameWithin r q) (some : 0 < q .m) where
   several-over index.Terminal w z s = s
   several-over index.Shifted w z s = s
   several-over index.Independent w z s = s
-  several-over index.Zero w z s = many-family (zero-points there) (zero-points back) (many-points there s)
+  several-over index.Zero w z s = many-zero there s
   several-over index.Front w z s = s
   several-over index.Hysteresis w z s = s
   several-over index.Repeatability w z s = s

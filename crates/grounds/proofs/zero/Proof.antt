@@ -8,11 +8,11 @@ use Rattle.whole.specs.Flags.{yes-T, no-T}
 use Rattle.run.specs.Run.{input, lent}
 use Rattle.run.specs.declared.Run.{Run}
 use Rattle.due.specs.Due.{BelowZero}
-use Rattle.due.specs.DueLaws.{first-negative}
+use Rattle.due.specs.DueLaws.{first-negative, points-not-negative}
 use Rattle.due.specs.Ground.{GroundDue}
 use Rattle.due.specs.declared.Index.the-variants as index
 use Rattle.grounds.specs.Basis.{meant-checked, meant-same, meant-admitted, negative-is}
-use Rattle.grounds.specs.LineLaws.{points-not-negative, fifteen, zero-stands}
+use Rattle.grounds.specs.LineLaws.{fifteen, zero-stands}
 use Rattle.grounds.proofs.zero.Statement.{statement}
 use Rattle.grounds.proofs.zero.Tie as tie
 
