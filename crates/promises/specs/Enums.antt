@@ -74,6 +74,7 @@ pub record SameAnswers (r : Run) : Type 0 where
   pub front : (P : Points) → SamePoints P (means r) → (d : Drawn) → FrontDue P d → (a : Answer) → Due index.Front r a → as-lined d ≡ some (lined a)
   pub lh : (P : Points) → SamePoints P (strokes r) → (d : Drawn) → BestDue P d → (a : Answer) → Due index.Lh r a → as-lined d ≡ some (lined a)
   pub lhr : (k : ℕ → ℕ → ℕ) → LimitsOf r k → (P : Points) → SamePoints P (limit-points r k) → (d : Drawn) → BestDue P d → (a : Answer) → Due index.Lhr r a → ¬ (a .number ≡ 13) → as-lined d ≡ some (lined a)
+  -- that the index may be told is what `index_of` of `indices` promises beside `Due`
   pub thousandths : (which : Index) (a : Answer) → Due which r a → (p : Percent) → PercentDue (a .index) p → Told (a .index) → as-thousandths p ≡ some (a .thousandths)
   -- some arrays have these points, so that none of this is said of nothing. The means are one array, lent twice
   pub lent-means : (x : List ℤ) × ((t : List ℤ) × Arrays (means r) x t t)

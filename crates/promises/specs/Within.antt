@@ -45,12 +45,12 @@ refused-alike : (r q : Run) (v : verdict r ≡ verdict q) (n : ¬ (verdict r .nu
 refused-alike r q v n =
     let n′ : ¬ (verdict q .number ≡ 0) = λ z. n (ap (λ (v : Verdict). v .number) v ∙ z) in
     record {
-    check = v;
-    index = λ which a. (λ d. case-due (refused-case r q v n (due-case d)), λ d. case-due (refused-case q r (sym v) n′ (due-case d)));
-    averages = λ a. (refused-averages r q v n, refused-averages q r (sym v) n′);
-    written = λ buffer. written-unchecked r buffer n ∙ ap (λ (v : Verdict). record { number = v .number; place = v .place; len = 0 }) v ∙ sym (written-unchecked q buffer n′);
-    after = λ buffer. after-unchecked r buffer n ∙ sym (after-unchecked q buffer n′);
-  }
+      check = v;
+      index = λ which a. (λ d. case-due (refused-case r q v n (due-case d)), λ d. case-due (refused-case q r (sym v) n′ (due-case d)));
+      averages = λ a. (refused-averages r q v n, refused-averages q r (sym v) n′);
+      written = λ buffer. written-unchecked r buffer n ∙ ap (λ (v : Verdict). record { number = v .number; place = v .place; len = 0 }) v ∙ sym (written-unchecked q buffer n′);
+      after = λ buffer. after-unchecked r buffer n ∙ sym (after-unchecked q buffer n′);
+    }
 
 -- ---- the same numbers at the points and cycles
 pub within-alike : (r q : Run) → SameWithin r q → Alike r q

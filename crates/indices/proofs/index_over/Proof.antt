@@ -58,8 +58,7 @@ returns-2 c =
     let g = p .before in
     let s = g .before .before .before .before in
     let a = s .args in
-    let e = p .span-of .ensures .0 ∙ span-is (a .m) (a .n) (a .x .now) (a .y .now) in
-    (
+    let e = p .span-of .ensures .0 ∙ span-is (a .m) (a .n) (a .x .now) (a .y .now) in (
       ground-answer (a .which) (run s) (g .ground-of .result) (g .ground-of .ensures) (subst (λ (n : ℕ). AnswerBy (g .ground-of .result) n (c .answer-of .result)) e (c .answer-of .ensures)),
       ground-told (g .ground-of .result) _ (c .answer-of .result) (c .answer-of .ensures),
     )
