@@ -40,7 +40,7 @@ static line_function *const LINES[BOTH] = {our_line, c_line};
 static const char *const WHOSE[BOTH] = {"ours", "C's"};
 
 enum { SHEET_CASE, LINE_CASE };
-enum { MOST_ITEMS = 16384, ROOM = 1024, BATCHES = 201 };
+enum { MOST_ITEMS = 32768, ROOM = 1024, BATCHES = 201 };
 #define BATCH_NANOSECONDS 200000
 
 struct item {

@@ -13,11 +13,11 @@ import make_files  # noqa: E402
 import make_sheets  # noqa: E402
 import worked_runs  # noqa: E402
 from second import lines, sheet  # noqa: E402
-from second.runfile import CYCLES, POINTS, SCATTER, X_LIMIT, Y_LIMIT, file_of, framed, point_record, reading_record, travel  # noqa: E402
+from second.runfile import CYCLES, POINTS, SCATTER, STROKES, X_LIMIT, Y_LIMIT, file_of, framed, point_record, reading_record, travel  # noqa: E402
 
 SHEETS, LINES = range(2)
-# the sizes whose whole sheets are timed, as (points, cycles)
-SIZES = ((3, 1), (3, 2), (6, 3), (POINTS, 1), (POINTS, CYCLES))
+# the sizes whose whole sheets are timed, as (points, cycles), by the strokes of their runs
+SIZES = {STROKES: ((3, 1), (3, 2), (6, 3), (POINTS, 1), (POINTS, CYCLES)), 1: ((6, 3),)}
 # how many different files each case has, in rotation
 EACH = 8
 
@@ -66,15 +66,15 @@ def fits(run):
 
 
 def hand_files(make):
-    """The runs built by hand as files, those that break a rule among them, in travel order and shuffled."""
+    """The runs of both strokes built by hand as files, those that break a rule among them, in travel order and shuffled."""
     for _, run in make_sheets.hand_runs():
-        if fits(run):
+        if run.strokes == STROKES and fits(run):
             yield file_of(run)
             yield make_sheets.shuffled(run, make)
 
 
 def all_files(seed=170):
-    """Every file that the comparisons of make test make, the runs worked by hand, and the runs built by hand as files; each once."""
+    """Every file that the comparisons of make test make, the runs worked by hand, and the runs of both strokes built by hand as files; each once."""
     make = random.Random(seed)
     found = dict.fromkeys(data for _, data in make_sheets.files())
     found.update(dict.fromkeys(make_files.files()))
@@ -103,14 +103,14 @@ def timed_runs(make, m, n):
     return out + [make_files.random_run(make, m, n) for _ in range(EACH - len(out))]
 
 
-def size_name(m, n):
-    return '%d points %d %s' % (m, n, 'cycle' if n == 1 else 'cycles')
+def size_name(m, n, strokes=STROKES):
+    return '%d points %d %s%s' % (m, n, 'cycle' if strokes == STROKES else 'upstroke', '' if n == 1 else 's')
 
 
-def whole_sheets(make):
-    for m, n in SIZES:
-        runs = timed_runs(make, m, n)
-        yield 'sheet ' + size_name(m, n), [make_sheets.shuffled(run, make) if which % 2 else file_of(run) for which, run in enumerate(runs)]
+def whole_sheets(make, strokes=STROKES):
+    for m, n in SIZES[strokes]:
+        runs = [run.but(strokes=strokes) for run in timed_runs(make, m, n)]
+        yield 'sheet ' + size_name(m, n, strokes), [make_sheets.shuffled(run, make) if which % 2 else file_of(run) for which, run in enumerate(runs)]
 
 
 def longest(make):
@@ -119,7 +119,7 @@ def longest(make):
 
 def wrong_first(make):
     """Refused at byte 0: the first byte is no opening."""
-    return [bytes([kind]) + file_of(longest(make))[1:] for kind in (0, 2, 3, 4, 5, 9, 128, 255)]
+    return [bytes([kind]) + file_of(longest(make))[1:] for kind in (0, 2, 3, 4, 6, 9, 128, 255)]
 
 
 def wrong_half_way(make):
@@ -171,7 +171,9 @@ def timed_bands(make):
 
 def timed(seed=1840):
     make = random.Random(seed)
-    out = [Case(SHEETS, name, ((data, sheet.sheet(data)) for data in files)) for family in (whole_sheets, refused) for name, files in family(make)]
+    # those of an up stroke only are made by numbers of their own, so that the others stay what they are
+    families = whole_sheets(make), whole_sheets(random.Random(seed + 1), 1), refused(make)
+    out = [Case(SHEETS, name, ((data, sheet.sheet(data)) for data in files)) for family in families for name, files in family]
     for case in out:
         # a case is what its name says only where every one of its files is
         begins = b'points ' if case.name.startswith('sheet') else b'refused '

@@ -3,9 +3,14 @@
 `python3 tests/check_work.py FOLDER` says what is wrong, one sentence to a line, and ends with status 1 if anything is.
 
 - An equation stands on one line, alone or behind a name and a colon; it may go on, as in `10/20 = 1/2`. `A is above B` and `A is below B` of whole numbers, and `N, which is P percent` of N thousandths, are held to the numbers too.
-- The head, which is all before `Sheet line 1`, has the line `points M cycles N` and the rows of numbers; they give the run file.
+- The head, which is all before `Sheet line 1`, has the line `points M cycles N` and the rows of numbers; they give the run file. Of a run with an up stroke only it has `points M upstrokes N`, and no row of the down stroke.
 - `Sheet line K` begins a sentence, and the line behind its full stop is line K of the sheet.
-- A run of two cycles or more has Q of each group. Where the readings of a group are not all the same it has these lines, in this order and before those of another group. The four that have a sum or a product may leave that to lines before them and give the number alone; there, too, nothing is multiplied but differences, their sum, the sum of their squares, and n.
+- A run with an up stroke only has of each input, once, T as twice U and the mean of T, as here of two cycles; the product may be left to lines before, and the mean may go on as any equation. No line tells Q of it.
+
+    T at 10: 2 * 1800 = 3600
+    both at 10: 3600/4 = 900
+
+- Any other run of two cycles or more has Q of each group. Where the readings of a group are not all the same it has these lines, in this order and before those of another group. The four that have a sum or a product may leave that to lines before them and give the number alone; there, too, nothing is multiplied but differences, their sum, the sum of their squares, and n.
 
     r 1: 899 - 899 = 0
     r 2: 901 - 899 = 2
@@ -25,6 +30,7 @@ from fractions import Fraction
 
 from braille import CELLS, NotCounted, cells
 from second.runfile import file_of
+from second.text import opening_line
 from worked_runs import names, part, rows, run_of_rows
 
 ROOT = os.path.dirname(os.path.dirname(os.path.abspath(__file__)))
@@ -125,9 +131,9 @@ class Group:
 
 
 def q_faults(lines, run):
-    """Each group has its Q once."""
+    """Each group has its Q once; a run with an up stroke only has none to tell."""
     groups = {}
-    for stroke, way in enumerate(STROKES):
+    for stroke, way in enumerate(STROKES if run.strokes == 2 else ()):
         for i in range(run.m):
             name = 'Q %s at %d' % (way, run.x[i])
             groups[name] = Group(name, [run.y[stroke, c, i] for c in range(run.n)])
@@ -142,6 +148,20 @@ def q_faults(lines, run):
             begin = at + 1
     yield from ('%s is not there' % name for name in groups)
     yield from ('%s is not due behind every Q' % line for line in lines[begin:] if OF_Q.match(line))
+
+
+def total_faults(lines, run):
+    """Of a run with an up stroke only each input has T and its mean once, in their forms."""
+    for i in range(run.m):
+        u = sum(run.y[0, c, i] for c in range(run.n))
+        total, mean = 'T at %d: %d' % (run.x[i], 2 * u), 'both at %d: %d/%d' % (run.x[i], 2 * u, 2 * run.n)
+        product = 'T at %d: 2 * %d = %d' % (run.x[i], u, 2 * u)
+        for due in (total, mean):
+            told = [line for line in lines if line.split(':')[0] == due.split(':')[0]]
+            # what the mean goes on with is held by the equation
+            kept = [line.split(' = ')[0] if due == mean else line for line in told]
+            if kept != [due] and told != [product]:
+                yield '%s stands where %s is due, once' % (', '.join(told) or 'nothing', due)
 
 
 def sheet_faults(lines, sheet):
@@ -159,8 +179,10 @@ def sheet_faults(lines, sheet):
 def run_of_head(head):
     """The run of the rows at the head; None if they are not those of a run."""
     told = rows('\n'.join(head))
-    n = (len(told) - 1) // 2
-    named = n > 0 and set(told) == {'inputs'} | {'%s %d' % (way, c) for way in STROKES for c in range(1, n + 1)}
+    # a down row makes it a run of both strokes
+    ways = STROKES if any(row.startswith('down') for row in told) else STROKES[:1]
+    n = (len(told) - 1) // len(ways)
+    named = n > 0 and set(told) == {'inputs'} | {'%s %d' % (way, c) for way in ways for c in range(1, n + 1)}
     even = len({len(row) for row in told.values()}) == 1
     within = all(abs(v) <= MOST for row in told.values() for v in row)
     return run_of_rows(told) if named and even and within else None
@@ -180,13 +202,15 @@ def work_faults(text, sheet, data):
     if run is None:
         yield 'the numbers at its head are not those of a run'
         return
-    sizes = 'points %d cycles %d' % (run.m, run.n)
+    sizes = opening_line(run.m, run.n, run.strokes).decode('ascii')
     if sizes not in head:
         yield 'its head does not say %s' % sizes
     if file_of(run) != data:
         yield 'the numbers at its head are not those of the run file'
-    if run.n > 1:
+    if run.n > 1 or run.strokes == 1:
         yield from q_faults(lines, run)
+    if run.strokes == 1:
+        yield from total_faults(lines, run)
 
 
 # How a work sheet of the paper's run may be wrong: the line that stands there, the one in its place, and what is to be said of it.
@@ -215,6 +239,8 @@ WRONG = [
     ('up 2: 0 901 2000', 'up 2: 0 901', 'are not those of a run'),
     ('up 2: 0 901 2000', 'up 2: 0 901 20000000000', 'are not those of a run'),
     ('inputs: 0 10 20', 'inputs 0 10 20', 'are not those of a run'),
+    ('down 1: 4 910 2004\ndown 2: 4 910 2004', 'There is no way back.', 'its head does not say points 3 upstrokes 2'),
+    ('down 1: 4 910 2004\ndown 2: 4 910 2004', 'There is no way back.', 'are not those of the run file'),
     ('repeatability 9/1000 0.900', 'repeatability 9/1000 0.901', 'sheet line 8 is not there'),
     ('Sheet line 8.', 'Sheet line 8.\nrepeatability 9/1000 0.901', 'sheet line 8 is not there'),
     ('line 100/1 -57/1', 'line 100/1 -57/1\nSheet line 8.', 'it has 12 sheet lines'),
@@ -237,11 +263,37 @@ WRONG = [
 ]
 
 
-def wrong_unseen(text, sheet, data):
+# The same of the run with an up stroke only that is worked here.
+WRONG_SINGLE = [
+    ('points 4 upstrokes 3', 'points 4 cycles 3', 'its head does not say points 4 upstrokes 3'),
+    ('points 4 upstrokes 3', 'points 4 upstrokes 2', 'its head does not say points 4 upstrokes 3'),
+    ('up 3: 1 223 612 1442', 'up 3: 1 223 612 1443', 'are not those of the run file'),
+    ('up 3: 1 223 612 1442', 'up 3: 1 223 612 1442\ndown 1: 2 223 613 1440', 'are not those of a run'),
+    ('up 3: 1 223 612 1442', 'up 3: 1 223 612 1442\ndown 1: 2 223 613 1440\ndown 2: 4 226 608 1445\ndown 3: 1 223 612 1442', 'its head does not say points 4 cycles 3'),
+    ('up 3: 1 223 612 1442', 'up 3: 1 223 612 1442\ndown 1: 2 223 613 1440\ndown 2: 4 226 608 1445\ndown 3: 1 223 612 1442', 'are not those of the run file'),
+    ('up 3: 1 223 612 1442', 'down 3: 1 223 612 1442', 'are not those of a run'),
+    ('up 3: 1 223 612 1442', 'That is all.', 'its head does not say points 4 upstrokes 2'),
+    ('T at 10: 2 * 672 = 1344', 'T at 10: 672', 'T at 10: 1344 is due'),
+    ('T at 10: 2 * 672 = 1344', 'T at 10: 672 + 0 = 672', 'T at 10: 1344 is due'),
+    ('T at 10: 2 * 672 = 1344', 'T at 10: 2 * 672 = 1343', 'is not true'),
+    ('T at 10: 2 * 672 = 1344', 'T at 10: 2 * 672 = 1344\nT at 10: 1344', 'T at 10: 1344 is due, once'),
+    ('T at 60: 2 * 4327 = 8654', 'T there is 8654.', 'T at 60: 8654 is due'),
+    ('both at 10: 1344/6 = 224', 'both at 10: 672/3 = 224', 'both at 10: 1344/6 is due'),
+    ('both at 10: 1344/6 = 224', 'both at 10: 672/6 = 112', 'both at 10: 1344/6 is due'),
+    ('both at 10: 1344/6 = 224', 'both at 10: 1344/61', 'both at 10: 1344/6 is due'),
+    ('both at 0: 14/6 = 7/3', 'The mean at 0 is 7/3.', 'both at 0: 14/6 is due'),
+    ('strokes. One stroke does not tell it,', 'strokes. One stroke does not tell it,\nQ up at 0: 14', 'Q up at 0 is not due'),
+    ('strokes. One stroke does not tell it,', 'strokes. One stroke does not tell it,\nr 1: 2 - 2 = 0', 'is not due behind every Q'),
+    ('hysteresis refused 16', 'hysteresis refused 13', 'sheet line 7 is not there'),
+    ('line refused 16', 'line 24/1 7/3', 'sheet line 11 is not there'),
+]
+
+
+def wrong_unseen(wrong, text, sheet, data):
     """Which of the wrong work sheets are not told by their sentence."""
-    for old, new, due in WRONG:
+    for old, new, due in wrong:
         if text.count('\n%s\n' % old) != 1:
-            yield 'the work sheet of the paper\'s run has not just one line %s' % ascii(old)
+            yield 'the work sheet of which it is made has not just one line %s' % ascii(old)
         elif not any(due in fault for fault in work_faults(text.replace('\n%s\n' % old, '\n%s\n' % new), sheet, data)):
             yield 'nothing is said of %s' % ascii(new)
 
@@ -274,8 +326,9 @@ def compare(run):
     """As the gate calls every comparison; it needs no program."""
     folder = os.path.join(ROOT, 'runs')
     right, wrong, told = check(folder)
-    unseen = list(wrong_unseen(*parts(folder, 'sample')))
-    return right + len(WRONG), wrong + unseen, told + ['%d wrong work sheets are found' % (len(WRONG) - len(unseen))]
+    unseen = [*wrong_unseen(WRONG, *parts(folder, 'sample')), *wrong_unseen(WRONG_SINGLE, *parts(folder, 'burst'))]
+    made = len(WRONG) + len(WRONG_SINGLE)
+    return right + made, wrong + unseen, told + ['%d wrong work sheets are found' % (made - len(unseen))]
 
 
 def main(given):

@@ -8,17 +8,20 @@ from braille import CELLS, cells
 from make_files import random_run
 from second import place, text
 from second.runfile import framed, reading_record, travel
+from worked_runs import part
 
 ROOT = os.path.dirname(os.path.dirname(os.path.abspath(__file__)))
 # what the gate says that these answers agreed with
 AGREED_WITH = 'the manual page'
-with open(os.path.join(ROOT, 'runs', 'sample.run'), 'rb') as file:
-    RUN = file.read()
-with open(os.path.join(ROOT, 'runs', 'sample.sheet'), 'rb') as file:
-    SHEET = file.read()
+FOLDER = os.path.join(ROOT, 'runs')
+RUN, SHEET = (part(FOLDER, 'sample', ending) for ending in ('.run', '.sheet'))
 LISTING = text.listing(RUN)
+# a run with an up stroke only, and what is wrong with it where it has a down reading
+BURST, BURST_SHEET = (part(FOLDER, 'burst', ending) for ending in ('.run', '.sheet'))
+UPSTROKES = text.listing(BURST)
+DOWN = reading_record(1, 0, 0, 5)
 REFUSED = text.refusal(42, 1, [b'word 2 is missing'])
-BEFORE = {'good.txt': LISTING, 'marked.txt': b'\xef\xbb\xbf' + LISTING, 'twice.run': RUN[:-1] + RUN[3:9] + RUN[-1:], 'bad.txt': b'up\n', 'my run.run': RUN, 'old.run': b'old', '-dash.run': RUN}
+BEFORE = {'good.txt': LISTING, 'marked.txt': b'\xef\xbb\xbf' + LISTING, 'twice.run': RUN[:-1] + RUN[3:9] + RUN[-1:], 'bad.txt': b'up\n', 'my run.run': RUN, 'old.run': b'old', '-dash.run': RUN, 'burst.run': BURST, 'burst.txt': UPSTROKES, 'down.run': BURST[:-1] + DOWN + BURST[-1:], 'down.txt': UPSTROKES + b'down point 0 cycle 0 reads 5\n'}
 
 COMMANDS = ('bench sheet RUN', 'bench listing RUN', 'bench typed TEXT RUN', 'bench place RUN', 'bench --help')
 
@@ -33,6 +36,11 @@ CASES = [
     ('the place of a refused file', ['place', 'twice.run'], b'', 0, b'refused 6 at 117\nrecord 17: point 0\nrecord 2 told it first\n', b'', {}),
     ('the place of an accepted file', ['place', 'my run.run'], b'', 0, b'nothing is refused\n', b'', {}),
     ('the place of standard input', ['place'], RUN[:-1], 0, b'refused 1 at 117\nrecord 17: not there\n', b'', {}),
+    ('a sheet of an up stroke only', ['sheet', 'burst.run'], b'', 0, BURST_SHEET, b'', {}),
+    ('a listing of an up stroke only', ['listing', 'burst.run'], b'', 0, UPSTROKES, b'', {}),
+    ('the place of a down reading in an up stroke only', ['place', 'down.run'], b'', 0, b'refused 4 at 123\nrecord 18: down point 0 cycle 0\n', b'', {}),
+    ('a run file of upstrokes', ['typed', 'burst.txt', 'new.run'], b'', 0, b'', b'', {'new.run': BURST}),
+    ('a refused text of upstrokes', ['typed', 'down.txt', 'new.run'], b'', 1, b'', b'refused 44 line 18\nno such point or cycle or stroke here\n', {}),
     ('a text with a byte-order mark', ['typed', 'marked.txt', 'new.run'], b'', 0, b'', b'', {'new.run': RUN}),
     ('a run file', ['typed', 'good.txt', 'new.run'], b'', 0, b'', b'', {'new.run': RUN}),
     ('a run file over an old one', ['typed', 'good.txt', 'old.run'], b'', 0, b'', b'', {'old.run': RUN}),

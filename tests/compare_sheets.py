@@ -5,9 +5,10 @@ from itertools import zip_longest
 import make_sheets
 import worked_runs
 import wrong_sheets
+from compare_files import single
 from requests import INDICES, SHEET, file_request, lent, run_request
 from second import sheet
-from second.sheet import NAMES, Answer, Bench, text
+from second.sheet import NAMES, NEED_STROKES, Answer, Bench, text
 
 # more than any sheet has: none is longer than 831 bytes
 ROOM = 900
@@ -15,6 +16,9 @@ FOLDER = os.path.join(os.path.dirname(os.path.dirname(os.path.abspath(__file__))
 
 # The fields of a refused index of which nothing stands; under 11 and 12 some do.
 NOTHING = {'place': '0', 'width': '0/1', 'slope': '0/1', 'offset': '0/1', 'index': '0/1', 'thousandths': '0'}
+
+# The five linearities, which a run with an up stroke only has, and what it has not.
+LINEARITIES = tuple(name for name in NAMES if name not in NEED_STROKES)
 
 # The figures to meet, typed from the paper, and those of zero and front from C-11 and worked by hand in runs/: the sample's sheet, ...
 SAMPLE_SHEET = b'''points 3 cycles 2
@@ -28,6 +32,20 @@ repeatability 9/1000 0.900
 lh 13/500 2.600
 lhr 61/2000 3.050
 line 100/1 -57/1
+'''
+
+# ... the sheet of its up stroke alone, in the head: the means are 0, 900, 2000; the lines through the origin and through the first point are one, by two points of the deviation 200/3, ...
+SINGLE_SHEET = b'''points 3 cycles 2
+terminal 1/20 5.000
+shifted 1/40 2.500
+independent 1/40 2.500
+zero 1/29 3.448
+front 1/29 3.448
+hysteresis refused 16
+repeatability refused 16
+lh refused 16
+lhr refused 16
+line refused 16
 '''
 
 # ... fields of the indices of runs, ...
@@ -81,6 +99,18 @@ FIGURES = [
     ('front level', 'independent', {'number': '0', 'slope': '-1/2'}),
 ] + [(name, index, {'number': '13', **NOTHING}) for name in ('a1', 'a4', 'c2') for index in ('repeatability', 'lhr')]
 
+# The named runs whose strokes are not alike: of every other one the up stroke alone has the same means, and so the same linearities.
+STROKES_DIFFER = ('sample', 'c2', 'lh single', 'lh not single')
+FIGURES += [(name + ', up only', index, fields) for name, index, fields in FIGURES if index in LINEARITIES and name not in STROKES_DIFFER]
+# Of the up stroke alone: the sample in the head, where T that is not twice U gives half of each; and 16, whatever 13, 12 and 11 have to say: a1 has one cycle, zeros slope zero, and both strokes of the fourth several lines.
+FIGURES += [
+    ('sample, up only', 'terminal', {'number': '0', 'width': '100/1', 'slope': '100/1', 'offset': '0/1', 'index': '1/20', 'thousandths': '5000'}),
+    ('sample, up only', 'shifted', {'number': '0', 'width': '50/1', 'slope': '100/1', 'offset': '-50/1', 'index': '1/40', 'thousandths': '2500'}),
+    ('sample, up only', 'independent', {'number': '0', 'width': '50/1', 'slope': '100/1', 'offset': '-50/1', 'index': '1/40', 'thousandths': '2500'}),
+    ('sample, up only', 'zero', {'number': '0', 'width': '200/3', 'slope': '290/3', 'offset': '0/1', 'index': '1/29', 'thousandths': '3448'}),
+    ('sample, up only', 'front', {'number': '0', 'width': '200/3', 'slope': '290/3', 'offset': '0/1', 'index': '1/29', 'thousandths': '3448'}),
+] + [(name + ', up only', index, {'number': '16', **NOTHING}) for name in ('sample', 'a1', 'zeros', 'lh not single') for index in NEED_STROKES]
+
 # The limits: the first line of the file's sheet, and number and place of every calculation of the run built by hand.
 LIMITS = [
     ('m of 2', 'refused 3 at 0', '3 0'),
@@ -92,9 +122,12 @@ LIMITS = [
     ('scatter of 10000', 'points 3 cycles 2', '0 0'),
     ('scatter of 10001', 'refused 10 at 1', '10 1'),
 ]
+LIMITS += [(name + ', up only', first, verdict) for name, first, verdict in LIMITS]
 
 # The means of the sample, in the head: U is 0, 1800, 4000 and D is 8, 1820, 4008.
 SAMPLE_MEANS = ['averages 0 0', 'up 0/1 900/1 2000/1' + 8 * ' 0/1', 'down 4/1 910/1 2004/1' + 8 * ' 0/1', 'both 2/1 905/1 2002/1' + 8 * ' 0/1']
+# Those of its up stroke alone: T is 0, 3600, 8000, by 4.
+SINGLE_MEANS = ['averages 0 0', 'up 0/1 900/1 2000/1' + 8 * ' 0/1', 'down' + 11 * ' 0/1', 'both 0/1 900/1 2000/1' + 8 * ' 0/1']
 
 # Which numbers each index is to have been answered with.
 DUE_NUMBERS = {name: (0, 3, 5, 9, 10, 11) for name in NAMES}
@@ -102,6 +135,10 @@ DUE_NUMBERS['zero'] += (12, 15)
 DUE_NUMBERS['repeatability'] += (13,)
 DUE_NUMBERS['lh'] += (12,)
 DUE_NUMBERS['lhr'] += (12, 13)
+# The same of runs with an up stroke only: what they have not is refused by 16 and by nothing behind it.
+SINGLE_NUMBERS = {name: (3, 5, 9, 10, 16) if name in NEED_STROKES else DUE_NUMBERS[name] for name in NAMES}
+for name in NEED_STROKES:
+    DUE_NUMBERS[name] += (16,)
 
 
 def buffer_lines(due, room):
@@ -135,7 +172,7 @@ class Benches:
         self.worked = {}
 
     def __call__(self, run, data=b''):
-        key = run.m, run.n, tuple(run.inputs()), tuple(run.readings())
+        key = run.m, run.n, run.strokes, tuple(run.inputs()), tuple(run.readings())
         if key not in self.worked:
             self.worked[key] = Bench(run, data)
         return self.worked[key]
@@ -204,8 +241,11 @@ def figure_faults(who, sheets, runs):
     """Where a program is not what the paper says, by its sheets (bytes by file name) and its lines (by run name)."""
     if sheets['sample'] != SAMPLE_SHEET:
         yield '%s prints another sheet of the sample than the paper' % who
-    if runs['sample'][:4] != SAMPLE_MEANS:
-        yield '%s has other means of the sample: %r' % (who, runs['sample'][:4])
+    if sheets['sample, up only'] != SINGLE_SHEET:
+        yield '%s prints another sheet of the up stroke of the sample than is worked here' % who
+    for name, means in (('sample', SAMPLE_MEANS), ('sample, up only', SINGLE_MEANS)):
+        if runs[name][:4] != means:
+            yield '%s has other means of %s: %r' % (who, name, runs[name][:4])
     for name, index, fields in FIGURES:
         line = next(line for line in runs[name] if line.startswith(index + ' '))
         found = dict(zip(Answer._fields, line.split(' ')[1:]))
@@ -217,8 +257,9 @@ def figure_faults(who, sheets, runs):
             yield '%s begins the sheet of %s with %r, where %r is due' % (who, name, sheets[name].decode('ascii').split('\n')[0], first)
         for line in [runs[name][0]] + runs[name][4:]:
             number, place = line.split(' ')[1:3]
-            # slope zero and one cycle are no matter of limits
-            if '%s %s' % (number, place) != verdict and (verdict, number) not in (('0 0', '11'), ('0 0', '12'), ('0 0', '13')):
+            # slope zero, one cycle and, where there is one, an up stroke only are no matter of limits
+            passed = ('11', '12', '13', '16') if 'up only' in name else ('11', '12', '13')
+            if '%s %s' % (number, place) != verdict and not (verdict == '0 0' and number in passed):
                 yield '%s gives %r of %s, where number and place are %s' % (who, line, name, verdict)
 
 
@@ -233,7 +274,7 @@ def named_files(files):
 
 
 def refusals_on(due):
-    """The refusals of one sheet: 1 to 10 as the only line, 11 to 13 and 15 in the line of an index. 14 is the writer's."""
+    """The refusals of one sheet: 1 to 10 as the only line, 11 to 13, 15 and 16 in the line of an index. 14 is the writer's."""
     fields = [line.split(' ') for line in due.decode('ascii').split('\n')[:-1]]
     if fields[0][0] == 'refused':
         return {int(fields[0][1])}
@@ -242,7 +283,7 @@ def refusals_on(due):
 
 def refusals_met(dues):
     """How many sheets had each refusal."""
-    met = dict.fromkeys((*range(1, 14), 15), 0)
+    met = dict.fromkeys((*range(1, 14), 15, 16), 0)
     for due in dues:
         for number in refusals_on(due):
             met[number] += 1
@@ -299,16 +340,18 @@ def counts_text(counts):
 
 
 def program_files(files, dues):
-    """Nearly forty files for the program itself: named ones, one of each refusal, shuffled ones, and two of 5,000 bytes."""
+    """Nearly sixty files for the program itself: named ones, one of each refusal, shuffled ones, and two of 5,000 bytes; the same of an up stroke only."""
     chosen = ['sample', 'a1', 'a4', 'c2', 'lh single', 'lh not single', 'zeros', 'a4 falling', 'half', 'one and a half', 'two and a half', 'value 10 at zero', 'value 11 at zero', 'negative', 'front level', 'empty', 'widest scatter, 10 cycles, 1', 'longest with 1000 bytes behind', 'rubbish of 4096 bytes']
+    chosen += ['sample, up only', 'a1, up only', 'zeros, up only', 'value 11 at zero, up only', 'negative, up only', 'sample, up only, with a down reading', 'sample, up only, opened as both strokes', 'sample opened as an up stroke only', 'longest, up only, with 1000 bytes behind']
     where = named_files(files)
     picked = [where[name] for name in chosen]
     for number in range(1, 11):
-        picked.append(next(which for which, due in enumerate(dues) if due.startswith(b'refused %d at ' % number)))
+        of_number = [which for which, due in enumerate(dues) if due.startswith(b'refused %d at ' % number)]
+        picked += [next(which for which in of_number if single(files[which][1]) == only) for only in (False, True)]
     shuffles = [which for which, (name, _) in enumerate(files) if name.endswith(', shuffled')]
     picked += shuffles[:: len(shuffles) // 6]
     out = [(files[which][0], files[which][1], dues[which]) for which in picked]
-    for name in ('sample', 'longest without its close'):
+    for name in ('sample', 'longest without its close', 'sample, up only'):
         data = files[where[name]][1]
         long = data + bytes(5000 - len(data))
         out.append((name + ' filled up to 5000 bytes', long, sheet.sheet(long)))
@@ -333,19 +376,44 @@ def worked_faults():
             yield 'the second program differs from the worked sheet of %s: %s' % (name, sheet_difference(sheet.sheet(data), due))
 
 
-def missing(met, per_index):
+def missing(met, per_index, per_single):
     for number, count in met.items():
         if not count:
             yield 'no sheet had refusal %d' % number
-    for name, numbers in DUE_NUMBERS.items():
-        yield from ('no %s was answered with %d' % (name, number) for number in numbers if not per_index[name].get(number))
+    for name in NAMES:
+        yield from ('no %s was answered with %d' % (name, number) for number in DUE_NUMBERS[name] if not per_index[name].get(number))
+        yield from ('no %s of an up stroke only was answered with %d' % (name, number) for number in SINGLE_NUMBERS[name] if not per_single[name].get(number))
+        yield from ('%s of an up stroke only was answered with %d' % (name, number) for number in per_single[name] if number not in SINGLE_NUMBERS[name])
 
 
-def own_faults(files, dues, runs, due_lines):
+def with_both_strokes(run):
+    """A run with an up stroke only that is walked down as it was walked up."""
+    return run.but(strokes=2, y={(s, c, i): y for (way, c, i), y in run.y.items() if way == 0 for s in (0, 1)})
+
+
+def told_alike(bench):
+    """What is the same of an up stroke only and of both strokes alike."""
+    means = bench.averages()
+    return means.number, means.place, means.up, means.both, [bench.answer(name) for name in LINEARITIES]
+
+
+def single_faults(runs, lines, worked):
+    """What is known of an up stroke only without working it: its linearities, and both its means, are those of both strokes alike, which every third run is tried for; and rubbish in the unused stroke changes nothing."""
+    by_name = {name: told for (name, _), told in zip(runs, lines)}
+    for which, ((name, run), told, bench) in enumerate(zip(runs, lines, worked)):
+        if bench.single() and which % 3 == 0 and told_alike(bench) != told_alike(Bench(with_both_strokes(run))):
+            yield 'the second program has other linearities of run %s than of both strokes alike' % name
+        # the name tells the run that it is the same as
+        if 'unused' in name and told != by_name[name.split(', with ')[0]]:
+            yield 'the second program answers otherwise of run %s than without' % name
+
+
+def own_faults(files, dues, runs, due_lines, worked):
     """What can be held against the second program without any other."""
     where = named_files(files)
     yield from figure_faults('the second program', {name: dues[which] for name, which in where.items()}, {name: lines for (name, _), lines in zip(runs, due_lines)})
     yield from worked_faults()
+    yield from single_faults(runs, due_lines, worked)
 
 
 class Material:
@@ -365,7 +433,8 @@ class Material:
         return out + list(tight_cases(self.files, self.dues))
 
     def met(self):
-        return refusals_met(self.dues), numbers_met(self.worked)
+        """The refusals on sheets, the numbers of each index, and the same of runs with an up stroke only."""
+        return refusals_met(self.dues), numbers_met(self.worked), numbers_met(bench for bench in self.worked if bench.single())
 
 
 def compare(run):
@@ -379,14 +448,17 @@ def compare(run):
         runs = {name: lines for (name, _), lines in zip(made.runs, answers[count:])}
         wrong += figure_faults('answers', sheets, runs)
     wrong += compare_program(run, chosen)
-    wrong += own_faults(made.files, made.dues, made.runs, made.lines)
-    met, per_index = made.met()
-    wrong += missing(met, per_index)
+    wrong += own_faults(made.files, made.dues, made.runs, made.lines, made.worked)
+    met, per_index, per_single = made.met()
+    wrong += missing(met, per_index, per_single)
     halves = halves_met(made.dues)
     wrong += half_faults(made.files, made.dues, halves)
     more, told = wrong_sheets.told_apart(made.files, made.dues)
+    more_runs, told_runs = wrong_sheets.runs_told_apart(made.runs, made.lines, run_lines)
     first = ['sheets: %d files, %d runs built by hand, %d files by the program itself' % (len(made.files), len(made.runs), len(chosen))]
+    first += ['of an up stroke only: %d files, %d runs built by hand' % (sum(single(data) for _, data in made.files), sum(run.strokes == 1 for _, run in made.runs))]
     first += ['refusals met on sheets: ' + counts_text(met)]
     first += ['%s met: %s' % (name, counts_text(per_index[name])) for name in NAMES]
+    first += ['%s of an up stroke only met: %s' % (name, counts_text(per_single[name])) for name in NAMES]
     first += ['halves below an %s met on %d sheets: %s' % (kind, counts['sheets'], ', '.join('%s %d' % (name, counts[name]) for name in NAMES)) for kind, counts in halves.items()]
-    return len(cases) + len(chosen), wrong + more, first + told
+    return len(cases) + len(chosen), wrong + more + more_runs, first + told + told_runs

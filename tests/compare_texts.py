@@ -8,6 +8,7 @@ import make_texts
 import worked_runs
 import wrong_places
 import wrong_texts
+from compare_files import single
 from compare_sheets import counts_text, named_files
 from braille import CELLS, cells
 from requests import LISTING, PLACE, TYPED, file_request, lent
@@ -20,22 +21,24 @@ LISTING_ROOM, FILE_ROOM, TOLD_ROOM = 8448, 2048, 120
 # no line that a run needs is longer, the page says
 LONGEST_LINE = 36
 DUE_NUMBERS = (0, 14, *range(41, 51))
+# those of upstrokes: a text without an opening is none of them
+SINGLE_NUMBERS = (0, 14, *range(42, 51))
 # The page says nothing of how 14 is told, so only the form of it is held: a text at the front, and nothing touched behind it.
 TOLD_FOURTEEN = re.compile(rb'refusal 0 ([0-9]{1,2})\n(.{120})\n', re.DOTALL)
 
 
 class Case:
-    """One request: what it is of, its bytes, the bytes due, the number answered, and the lines that tell a refusal."""
+    """One request: what it is of, its bytes, the bytes due, the number answered, whether it is of an up stroke only, and the lines that tell a refusal."""
 
-    def __init__(self, what, request, due, number, told=()):
-        self.what, self.request, self.due, self.number, self.told = what, request, due, number, told
+    def __init__(self, what, request, due, number, only_up, told=()):
+        self.what, self.request, self.due, self.number, self.only_up, self.told = what, request, due, number, only_up, told
 
 
 def listing_case(what, data, content, room):
     """A run file whose listing is due in a buffer of that length."""
     (number, length), after = text.printed(content, lent(room))
     due = b'listing %d %d\n' % (number, length) + after + b'\n'
-    return Case('the listing of %s with room %d' % (what, room), file_request(LISTING, data, room), due, number)
+    return Case('the listing of %s with room %d' % (what, room), file_request(LISTING, data, room), due, number, single(data))
 
 
 def place_case(what, data, room):
@@ -43,7 +46,12 @@ def place_case(what, data, room):
     told = place.Places(data)
     (number, length), after = text.printed(text.joined(told.lines()), lent(room))
     due = b'place %d %d\n' % (number, length) + after + b'\n'
-    return Case('the place of %s with room %d' % (what, room), file_request(PLACE, data, room), due, number or told.number, told.lines())
+    return Case('the place of %s with room %d' % (what, room), file_request(PLACE, data, room), due, number or told.number, single(data), told.lines())
+
+
+def of_upstrokes(given):
+    """Whether a text is opened as one of an up stroke only; most have not the word, which is soon seen."""
+    return b'upstrokes' in given and text.Text(given).strokes == 1
 
 
 def typed_case(what, given, room, heard):
@@ -55,7 +63,7 @@ def typed_case(what, given, room, heard):
         lines = content.split(b'\n')
         (short, told), refusal = text.printed(content, lent(TOLD_ROOM))
         due += b'refusal %d %d\n' % (short, told) + refusal + b'\n'
-    return Case('text %s with room %d' % (what, room), file_request(TYPED, given, room), due, number, lines)
+    return Case('text %s with room %d' % (what, room), file_request(TYPED, given, room), due, number, of_upstrokes(given), lines)
 
 
 class Material:
@@ -178,12 +186,12 @@ def round_trips(run, made, answers):
 
 # The programs themselves
 
-NAMED_TEXTS = ('sample', 'sample in reverse', 'carriage returns', 'no last line feed', 'dressed 0', 'dressed 1', "a text of b''", 'the longest run in the widest words', 'every record twice and nothing', '65536 bytes with a line feed behind', '65536 bytes with no line feed behind', '65537 bytes with a line feed behind', '65536 line feeds', 'sample with a byte-order mark', '65536 bytes behind a byte-order mark', '65537 bytes behind a byte-order mark')
-NAMED_FILES = ('sample', 'a1', 'a4', 'c2', 'zeros', 'negative', 'empty', 'm of 11', 'widest scatter, 10 cycles, 1', 'longest with 1000 bytes behind', 'rubbish of 4096 bytes')
+NAMED_TEXTS = ('sample', 'sample in reverse', 'carriage returns', 'no last line feed', 'dressed 0', 'dressed 1', "a text of b''", 'the longest run in the widest words', 'every record twice and nothing', '65536 bytes with a line feed behind', '65536 bytes with no line feed behind', '65537 bytes with a line feed behind', '65536 line feeds', 'sample with a byte-order mark', '65536 bytes behind a byte-order mark', '65537 bytes behind a byte-order mark', 'upstrokes of the sample', 'upstrokes of the sample in reverse', 'upstrokes with a down line', 'upstrokes with an opening of cycles', 'upstrokes behind an opening of cycles', 'upstrokes without a reading of the second cycle', 'upstrokes with one letter less', 'cycles of the up stroke alone', 'the longest run in the widest words, upstrokes')
+NAMED_FILES = ('sample', 'a1', 'a4', 'c2', 'zeros', 'negative', 'empty', 'm of 11', 'widest scatter, 10 cycles, 1', 'longest with 1000 bytes behind', 'rubbish of 4096 bytes', 'sample, up only', 'a1, up only', 'm of 11, up only', 'sample, up only, of 12 points', 'sample, up only, with a down reading', 'sample opened as an up stroke only', 'sample, up only, opened as both strokes', 'longest, up only, with 1000 bytes behind')
 
 
 def chosen_texts(made):
-    """About forty texts: named ones, the first and the last of each number, and two that are far too long."""
+    """About fifty texts: named ones, the first and the last of each number, and two that are far too long."""
     by_name, numbers = dict(made.texts), [number for number, _, _ in made.heard]
     out = [(name, by_name[name]) for name in NAMED_TEXTS]
     for number in sorted(set(numbers)):
@@ -206,11 +214,12 @@ def typed_faults(run, chosen):
 
 
 def chosen_files(made):
-    """About thirty-five files: named ones, one of each refusal, shuffled ones, and ones of 5,000 bytes."""
+    """Nearly sixty files: named ones, one of each refusal, of both strokes and of an up stroke only, shuffled ones, and ones of 5,000 bytes."""
     where = named_files(made.files)
     picked = [where[name] for name in NAMED_FILES]
     for number in range(1, 11):
-        picked.append(next(which for which, answered in enumerate(made.answers) if answered[0] == number))
+        of_number = [which for which, answered in enumerate(made.answers) if answered[0] == number]
+        picked += [next(which for which in of_number if single(made.files[which][1]) == only_up) for only_up in (False, True)]
     shuffles = [which for which, (name, _) in enumerate(made.files) if name.endswith(', shuffled')]
     out = [made.files[which] for which in picked + shuffles[::len(shuffles) // 10]]
     for name in ('sample', 'longest without its close'):
@@ -294,9 +303,9 @@ def page_faults(run, made):
     yield from line_faults(made.listings)
 
 
-def met(cases, made):
+def met(cases, answers, numbers=DUE_NUMBERS):
     """How often each number was answered of a text, of a listing and of a place; a file that was refused counts by its refusal."""
-    typed, listed, placed = dict.fromkeys(DUE_NUMBERS, 0), dict.fromkeys((*range(11), 14), 0), dict.fromkeys((*range(11), 14), 0)
+    typed, listed, placed = dict.fromkeys(numbers, 0), dict.fromkeys((*range(11), 14), 0), dict.fromkeys((*range(11), 14), 0)
     for case in cases:
         if case.due.startswith(b'typed'):
             typed[case.number] += 1
@@ -304,15 +313,21 @@ def met(cases, made):
             placed[case.number] += 1
         elif case.number:
             listed[case.number] += 1
-    for number, _, _ in made.answers:
+    for number, _, _ in answers:
         listed[number] += 1
-    return typed, listed, placed
+    return {'texts': typed, 'listings': listed, 'places': placed}
 
 
-def missing(typed, listed, placed):
-    yield from ('no text was answered with %d' % number for number, count in typed.items() if not count)
-    yield from ('no listing was answered with %d' % number for number, count in listed.items() if not count)
-    yield from ('no place was told of %d' % number for number, count in placed.items() if not count)
+def all_met(cases, made):
+    """The counts by what is asked, and the same of an up stroke only."""
+    singles = [answered for (_, data), answered in zip(made.files, made.answers) if single(data)]
+    only_up = met([case for case in cases if case.only_up], singles, SINGLE_NUMBERS)
+    return {**met(cases, made.answers), **{name + ' of an up stroke only': counts for name, counts in only_up.items()}}
+
+
+def missing(counted):
+    for name, counts in counted.items():
+        yield from ('no %s were answered with %d' % (name, number) for number, count in counts.items() if not count)
 
 
 def compare(run):
@@ -324,10 +339,10 @@ def compare(run):
         back, forth, wrong = round_trips(run, made, answers)
     texts, files = chosen_texts(made), chosen_files(made)
     wrong += [*typed_faults(run, texts), *listing_faults(run, files), *place_faults(run, files), *page_faults(run, made), *wide_faults(cases)]
-    typed, listed, placed = met(cases, made)
-    wrong += missing(typed, listed, placed)
+    counted = all_met(cases, made)
+    wrong += missing(counted)
     more, told = wrong_texts.told_apart(made.texts)
     more_places, told_places = wrong_places.told_apart(made.files)
     first = ['texts: %d texts and %d files, %d listings typed again, %d typed texts listed, %d texts and %d files by the programs themselves' % (len(made.texts), len(made.files), back, forth, len(texts), len(files))]
-    first += ['texts met: ' + counts_text(typed), 'listings met: ' + counts_text(listed), 'places met: ' + counts_text(placed)]
+    first += ['%s met: %s' % (name, counts_text(counts)) for name, counts in counted.items()]
     return len(cases) + back + forth + len(texts) + 2 * len(files), wrong + more + more_places, first + told + told_places

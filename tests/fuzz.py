@@ -17,7 +17,7 @@ from second.sheet import Bench
 ROOM = 2048
 # so many cases go to the program at once: it is started anew for each lot
 LOT = 250
-NUMBERS = range(1, 16)
+NUMBERS = range(1, 17)
 
 
 def room_for(slack, length):
@@ -67,7 +67,7 @@ class Case:
         if self.asked.kind in (READ, SHEET):
             yield 'file ' + given.hex()
             return
-        yield 'points %d cycles %d' % (given.m, given.n)
+        yield 'points %d cycles %d strokes %d' % (given.m, given.n, given.strokes)
         yield ' '.join(map(str, ['inputs', *given.inputs()]))
         yield ' '.join(map(str, ['readings', *given.readings()]))
 

@@ -1,5 +1,6 @@
 """The test command: `make test`. Its last line is 'N passed, 0 failed' only where all of this held:
 the files are laid out as `rt fmt` lays them, `rt ci` ended with status 0 and its own such line, and every comparison with the second program and with the sheets worked by hand ran and agreed, and every line of a work sheet keeps to its rules."""
+import concurrent.futures
 import os
 import re
 import subprocess
@@ -79,14 +80,24 @@ def run(program, given, errors=False):
     return done.stdout
 
 
+def compare(name):
+    """What one comparison says; by its name, so that another process can be asked."""
+    return next(comparison for comparison in COMPARISONS if comparison.__name__ == name).compare(run)
+
+
+def compared():
+    """What the comparisons say, in their order. They are independent, so two run at a time."""
+    with concurrent.futures.ProcessPoolExecutor(2) as workers:
+        yield from workers.map(compare, [comparison.__name__ for comparison in COMPARISONS])
+
+
 def main():
     began = time.time()
     check_toolchain()
     check_layout()
     passed = prove()
     proved = time.time()
-    for comparison in COMPARISONS:
-        count, wrong, told = comparison.compare(run)
+    for comparison, (count, wrong, told) in zip(COMPARISONS, compared()):
         for text in told:
             say(text)
         for text in wrong[:20]:

@@ -21,7 +21,7 @@ from worked_runs import names, part  # noqa: E402
 TABLES = 'unicode.dis,en-ueb-g1.ctb'
 # what more is told of a refusal, and what a record is told as, with the longest numbers that there are
 MORE = [b'word 8 is not understood', b'word 7 is missing', b'line 65535 told it first', b'point 10 is missing', b'down point 10 cycle 9 is missing', b'lines 65536 and 65535 lie apart']
-RECORDS = ['points 255 cycles 255', 'point 255', 'up point 255 cycle 255', 'down point 255 cycle 255', 'stroke 255', 'close', 'kind 255', 'cut short', 'not there', 'behind the close']
+RECORDS = ['points 255 cycles 255', 'points 255 upstrokes 255', 'point 255', 'up point 255 cycle 255', 'down point 255 cycle 255', 'stroke 255', 'close', 'kind 255', 'cut short', 'not there', 'behind the close']
 
 
 def tool(command, given=''):
@@ -109,7 +109,7 @@ def sources():
     yield 'refusals of a text', [line for n in range(41, 51) for line in text.refusal(n, 65536, MORE).decode('ascii').splitlines()], True
     yield 'refusals of a run file', ['refused %d at %d' % (n, 1830 if n < 9 else 10) for n in range(1, 11)], True
     yield 'records that a place means', ['record 233: ' + what for what in RECORDS] + ['record 232 told it first', 'records 233 and 232 lie apart', 'nothing is refused'], True
-    yield 'refusals of an index', ['%s refused %d' % (name, n) for name in NAMES + ('line',) for n in (11, 12, 13, 15)], True
+    yield 'refusals of an index', ['%s refused %d' % (name, n) for name in NAMES + ('line',) for n in (11, 12, 13, 15, 16)], True
 
 
 def told(name, lines, always):

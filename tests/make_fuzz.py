@@ -1,14 +1,14 @@
-"""Makes one case of `make fuzz` of a seed and a number: a run built by hand, with rules broken or not, or a file, in travel order, shuffled or damaged. The same two numbers always make the same case."""
+"""Makes one case of `make fuzz` of a seed and a number: a run built by hand, with rules broken or not, or a file, in travel order, shuffled or damaged; every third run or so has an up stroke only. The same two numbers always make the same case."""
 import random
 from collections import namedtuple
 from itertools import islice
 
 import make_halves
 import make_sheets
-from make_files import random_run, with_point, with_reading
+from make_files import NO_STROKES, random_run, unused_rubbish, up_only, with_point, with_reading
 from make_sheets import beyond, edge_inputs, gain_for, held, moved, rubbish_behind, run_of, sensor
 from requests import INDICES, READ, SHEET, WRITE
-from second.runfile import M_LIMITS, N_LIMITS, SCATTER, STROKES, X_LIMIT, Y_LIMIT, Run, framed, signed_bytes, travel
+from second.runfile import M_LIMITS, N_LIMITS, SCATTER, STROKES, X_LIMIT, Y_LIMIT, framed, signed_bytes, travel
 from second.sheet import NAMES
 
 # What is asked: a kind of request, a file or a run, and how much longer than what is due the lent buffer is; None where it just has room for any answer.
@@ -76,15 +76,21 @@ def at_limits(make):
 
 
 def good_run(make):
-    """A run that is accepted, most often."""
-    return make.choice((of_family, of_family, of_family, bench_sensor, random_run, small_numbers, plateaus, half, at_limits))(make)
+    """A run that is accepted, most often; of both strokes, or of the up stroke alone."""
+    run = make.choice((of_family, of_family, of_family, bench_sensor, random_run, small_numbers, plateaus, half, at_limits))(make)
+    return up_only(run) if make.random() < 0.35 else run
 
 
 # Rules broken, or only just kept: each gives the run with one thing changed.
 
 def other_sizes(make, run):
     m, n = (make.choice((v, v, 0, low - 1, low, high, high + 1, 255, 2**32, 2**63, 2**64 - 1)) for v, (low, high) in ((run.m, M_LIMITS), (run.n, N_LIMITS)))
-    return Run(m, n, run.x, run.y)
+    return run.but(m=m, n=n)
+
+
+def other_strokes(make, run):
+    """A stroke count that there is not; or the other one of the two, with the readings that are there."""
+    return run.but(strokes=make.choice((3 - run.strokes, *NO_STROKES)) if run.strokes in (1, 2) else 1)
 
 
 def near_or_far(make, limit):
@@ -122,14 +128,21 @@ def with_rubbish(make, run):
     return rubbish_behind(run, make) if len(run.x) == run.m else run
 
 
+def with_unused(make, run):
+    """Rubbish in the unused stroke, where there is one."""
+    return unused_rubbish(run, make) if run.strokes == 1 else run
+
+
 def within(run, size):
     """The run with every number held to what so many bytes can say."""
     least, most = -2**(8 * size - 1), 2**(8 * size - 1) - 1
     kept = lambda numbers: {place: max(least, min(most, v)) for place, v in numbers.items()}
-    return Run(run.m, run.n, kept(run.x), kept(run.y))
+    return run.but(x=kept(run.x), y=kept(run.y))
 
 
-CHANGES = (other_sizes, other_input, other_reading, not_rising, far_apart, far_apart, inputs_moved, with_rubbish)
+# a file tells neither sizes nor strokes that there are not, and has no unused stroke: its changes come last
+CHANGES = (other_sizes, other_strokes, with_unused, with_unused, other_input, other_reading, not_rising, far_apart, far_apart, inputs_moved, with_rubbish)
+FILE_CHANGES = CHANGES[4:]
 
 
 def hand_run(make):
@@ -156,8 +169,8 @@ def swap_numbers(make, middle):
 
 
 def unknown(make, middle):
-    """A record of no kind, a second opening or an early close."""
-    kind = make.choice((0, 1, 1, 4, 4, 5, 6, 128, 255))
+    """A record of no kind, a second opening of either kind or an early close."""
+    kind = make.choice((0, 1, 1, 4, 4, 5, 5, 6, 128, 255))
     middle.insert(make.randrange(len(middle) + 1), bytes([kind]) + make.randbytes(make.choice((0, 2, 5, 7))))
 
 
@@ -193,33 +206,38 @@ def other_bytes(make, data):
     out = bytearray(data)
     for _ in range(make.randint(1, 3)):
         at = make.randrange(len(out))
-        out[at] = make.choice((make.randrange(256), make.randrange(5), out[at] ^ 1 << make.randrange(8)))
+        out[at] = make.choice((make.randrange(256), make.randrange(6), out[at] ^ 1 << make.randrange(8)))
     return bytes(out)
 
 
 def other_opening(make, data):
-    return bytes([make.choice((1, 1, 1, 0, 2, 255)), make.choice((0, 2, 3, 11, 12, 255, make.randrange(256))), make.choice((0, 1, 10, 11, 255, make.randrange(256)))]) + data[3:]
+    return bytes([make.choice((1, 1, 5, 5, 0, 2, 6, 255)), make.choice((0, 2, 3, 11, 12, 255, make.randrange(256))), make.choice((0, 1, 10, 11, 255, make.randrange(256)))]) + data[3:]
 
 
-FILE_DAMAGE = (cut, cut, longer, other_bytes, other_bytes, other_opening)
+def other_kind(make, data):
+    """The opening of the other kind, and all else as it was."""
+    return bytes([{1: 5, 5: 1}.get(data[0], 5)]) + data[1:]
+
+
+FILE_DAMAGE = (cut, cut, longer, other_bytes, other_bytes, other_opening, other_kind)
 
 
 def run_file(make):
     """The file of a run, or of one that a change has made doubtful, in travel order or shuffled."""
     run = good_run(make)
-    m, n = run.m, run.n
+    m, n, strokes = run.m, run.n, run.strokes
     if make.random() < 0.2:
-        run = within(make.choice(CHANGES[1:])(make, run), 4)
+        run = within(make.choice(FILE_CHANGES)(make, run), 4)
     middle = travel(run)
     if make.random() < 0.5:
         make.shuffle(middle)
     if make.random() < 0.3:
         make.choice(RECORD_DAMAGE)(make, middle)
-    return framed(m, n, middle)
+    return framed(m, n, middle, strokes)
 
 
 def rubbish(make):
-    return bytes([1, make.randint(*M_LIMITS), make.randint(*N_LIMITS)]) + bytes(make.choice((make.randrange(256), make.randrange(5))) for _ in range(make.randrange(200)))
+    return bytes([make.choice((1, 5)), make.randint(*M_LIMITS), make.randint(*N_LIMITS)]) + bytes(make.choice((make.randrange(256), make.randrange(6))) for _ in range(make.randrange(200)))
 
 
 def any_file(make):

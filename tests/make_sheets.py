@@ -3,7 +3,7 @@ import random
 
 import make_files
 import make_halves
-from make_files import paper_run, random_run, with_point, with_reading
+from make_files import NO_STROKES, paper_run, random_run, unused_rubbish, up_only, with_point, with_reading
 from second.runfile import CYCLES, M_LIMITS, N_LIMITS, POINTS, SCATTER, X_LIMIT, Y_LIMIT, Run, file_of, framed, point_record, reading_record, travel
 
 FAR = (1, 10**6, 2**40, 2**63 - 1)
@@ -112,7 +112,7 @@ def evenly(m):
 def scattered(run, places, spread):
     """The run with every second cycle moved up at these (stroke, point) places."""
     moved = {(s, c, i): y + (spread if c % 2 and (s, i) in places else 0) for (s, c, i), y in run.y.items()}
-    return Run(run.m, run.n, run.x, moved)
+    return run.but(y=moved)
 
 
 def everywhere(m):
@@ -228,7 +228,7 @@ def large_figures(make):
 
 def moved(run, by):
     """The run with every input moved."""
-    return Run(run.m, run.n, {i: x + by for i, x in run.x.items()}, run.y)
+    return run.but(x={i: x + by for i, x in run.x.items()})
 
 
 def first_inputs(make):
@@ -334,38 +334,134 @@ def halves(make):
         yield name, run_of(x, up, down)
 
 
+FAMILIES = (every_size, falling, near_linear, once, level, not_single, between_one_and_many, tiny, extremes, large_figures, first_inputs, through_zero, value_at_zero, balanced_beyond, tiny_from_zero, large_from_zero, halves)
+
+
 def families(seed=18459):
     make = random.Random(seed)
-    for family in (every_size, falling, near_linear, once, level, not_single, between_one_and_many, tiny, extremes, large_figures, first_inputs, through_zero, value_at_zero, balanced_beyond, tiny_from_zero, large_from_zero, halves):
+    for family in FAMILIES:
         yield from family(make)
+
+
+# Runs with an up stroke only
+
+def single(name, run):
+    return name + ', up only', up_only(run)
+
+
+def single_named():
+    """The up strokes of the named runs. Of all but four both strokes are alike, so that the linearities are those of the named run."""
+    for name, run in named():
+        yield single(name, run)
+
+
+def straight(make, x, values):
+    """A run with an up stroke only of up to three cycles whose means are these values: by what one cycle lies above, the next lies below."""
+    n = make.randint(1, 3)
+    loose = [make.choice((0, 0, 1, 30)) if n > 1 else 0 for _ in values]
+    rows = [[v + (by, -by, 0)[c] for v, by in zip(values, loose)] for c in range(n)]
+    return up_only(run_of(x, rows, rows))
+
+
+def single_at_zero(make):
+    """value_at_zero and balanced_beyond of the up stroke alone: what is equal, one less and one more there is so of U/n here. A sum unit is one nth."""
+    for which in range(25):
+        m, width, side = make.choice((3, 3, 4, 5, 7)), make.choice((1, 2, 9, 400)), make.choice((1, -1))
+        x, slope = rising(make, m, 0), make.choice((0, 0, 1, -1, 7, -40))
+        values = balanced(make, x, slope, width)
+        for what, at_zero in (('zero', 0), ('one less', width - 1), ('equal', width), ('one more', width + 1), ('far more', 3 * width + 50)):
+            yield 'single value at zero %s %d' % (what, which), straight(make, x, [side * at_zero] + values[1:])
+        equal = straight(make, x, [side * width] + values[1:])
+        for what, by in (('less', -side), ('more', side)):
+            place = 0, make.randrange(equal.n), 0
+            yield 'single value at zero a sum unit %s %d' % (what, which), with_reading(equal, place, equal.y[place] + by)
+        beyond_zero = rising(make, m, make.choice((1, 2, 40)))
+        yield 'single balanced beyond zero %d' % which, straight(make, beyond_zero, balanced(make, beyond_zero, slope, width))
+        first, value = make.choice((-40, -3, 0, 1, 25)), make.choice((0, 5, -80, 1000))
+        at = rising(make, m, first)
+        behind = balanced(make, [v - first for v in at], slope, width)
+        yield 'single balanced behind the front %d' % which, straight(make, at, [value] + [value + v for v in behind[1:]])
+
+
+def single_halves(make):
+    """The halves of the five linearities: the strokes of these runs are alike."""
+    for name, run in halves(make):
+        if name.split(' ')[2] in make_halves.LINES:
+            yield single(name, run)
+
+
+def single_families(seed=1300):
+    """Each size, the halves of linearities, and of the other families a third by chance; all by numbers of their own, so that the runs of both strokes stay what they are."""
+    make = random.Random(seed)
+    for name, run in every_size(make):
+        yield single(name, run)
+    yield from single_at_zero(make)
+    yield from single_halves(make)
+    for family in FAMILIES:
+        if family not in (every_size, halves):
+            for name, run in family(make):
+                if make.random() < 0.33:
+                    yield single(name, run)
 
 
 def good_runs():
     """Runs that are accepted, each with its name."""
     yield from named()
     yield from families()
+    yield from single_named()
+    yield from single_families()
 
 
 def shuffled(run, make):
     middle = travel(run)
     make.shuffle(middle)
-    return framed(run.m, run.n, middle)
+    return framed(run.m, run.n, middle, run.strokes)
 
 
-def long_files():
-    """Rubbish behind the longest file, and a record too many before its close: 1,837 bytes are as far as a file can be good or cut."""
-    run = sensor(random.Random(1830), POINTS, CYCLES, 100)
+def long_files(longest='longest', only=lambda run: run):
+    """Rubbish behind the longest file, and a record too many before its close: 1,837 bytes are as far as a file can be good or cut, and 957 one of an up stroke only, in which the reading that is too large lies outside as well."""
+    run = only(sensor(random.Random(1830), POINTS, CYCLES, 100))
     data, middle = file_of(run), travel(run)
     for count in (1, 7, 8, 1000, 4096 - len(data)):
-        yield 'longest with %d bytes behind' % count, data + bytes([4]) * count
+        yield '%s with %d bytes behind' % (longest, count), data + bytes([4]) * count
     extra = {'a second reading': reading_record(0, 0, 0, 5), 'a reading outside': reading_record(0, 0, POINTS, 5), 'a reading too large': reading_record(1, 9, 10, Y_LIMIT + 1), 'a second point': point_record(4, 5)}
     for what, record in extra.items():
-        long = framed(run.m, run.n, middle + [record])
+        long = framed(run.m, run.n, middle + [record], run.strokes)
         for length in range(len(data) - 2, len(long) + 1):
-            yield 'longest with %s, cut at %d' % (what, length), long[:length]
-        yield 'longest with %s and rubbish' % what, long + bytes(range(200)) * 5
-    yield 'longest without its close', data[:-1]
-    yield 'rubbish of 4096 bytes', bytes([1, 3, 1]) + bytes([2, 0, 0, 0, 0, 0]) * 682 + b'\0'
+            yield '%s with %s, cut at %d' % (longest, what, length), long[:length]
+        yield '%s with %s and rubbish' % (longest, what), long + bytes(range(200)) * 5
+    yield longest + ' without its close', data[:-1]
+
+
+def rubbish_files():
+    """Records told over and over, and no close."""
+    for name, kind in (('rubbish of 4096 bytes', 1), ('rubbish of 4096 bytes, up only', 5)):
+        yield name, bytes([kind, 3, 1]) + bytes([2, 0, 0, 0, 0, 0]) * 682 + b'\0'
+
+
+def single_faults():
+    """Files of an up stroke only of three points and two cycles, each with one fault, by name: these tell wrong methods apart."""
+    run = up_only(paper_run())
+    middle, again = travel(run), bytes([5, 3, 2])
+    down = reading_record(1, 0, 0, 4)
+    yield 'sample, up only, with a down reading', framed(3, 2, middle[:6] + [down] + middle[6:], 1)
+    yield 'sample, up only, with a down reading beyond', framed(3, 2, middle + [reading_record(1, 1, 2, Y_LIMIT + 1)], 1)
+    yield 'sample, up only, with stroke 2', framed(3, 2, middle + [reading_record(2, 0, 0, 4)], 1)
+    yield 'sample, up only, with a second opening', framed(3, 2, middle[:4] + [again] + middle[4:], 1)
+    yield 'sample, up only, with an opening of both strokes', framed(3, 2, middle[:4] + [bytes([1, 3, 2])] + middle[4:], 1)
+    yield 'sample with an opening of an up stroke only', framed(3, 2, travel(paper_run())[:4] + [again] + travel(paper_run())[4:])
+    yield 'sample opened as an up stroke only', framed(3, 2, travel(paper_run()), 1)
+    yield 'sample, up only, opened as both strokes', framed(3, 2, middle, 2)
+    yield 'sample opened by kind 6', bytes([6]) + file_of(run)[1:]
+    yield 'sample, up only, without the second cycle', framed(3, 2, middle[:6], 1)
+    yield 'sample, up only, without its last reading', framed(3, 2, middle[:-1], 1)
+    yield 'sample, up only, with a reading twice', framed(3, 2, middle + [middle[4]], 1)
+    yield 'sample, up only, of 12 points', framed(12, 2, middle, 1)
+    yield 'sample, up only, of 0 cycles', framed(3, 0, middle, 1)
+    yield 'sample, up only, with scatter', framed(3, 2, middle[:-1] + [reading_record(0, 1, 2, 12001)], 1)
+    yield 'sample, up only, with two inputs alike', framed(3, 2, [middle[0], middle[1], point_record(2, 10)] + middle[3:], 1)
+    yield 'an opening of an up stroke only', bytes([5])
+    yield 'an opening of an up stroke only and no more', bytes([5, 3, 2])
 
 
 def limit_runs():
@@ -379,20 +475,30 @@ def limit_runs():
         yield 'scatter of %d' % gap, run_of([0, 10, 20], [[0, 0, 9], [0, gap, 9]], [[0, 0, 9], [0, 0, 9]])
 
 
-def files(seed=2001):
-    """(name, bytes): the good runs in travel order or shuffled, what make_files damages, and long files; none above 4096 bytes."""
-    make = random.Random(seed)
-    for name, run in named():
-        yield name, file_of(run)
-    for which, (name, run) in enumerate(families()):
+def in_turn(runs, make):
+    """Files of these runs, in travel order and shuffled in turn."""
+    for which, (name, run) in enumerate(runs):
         if which % 2:
             yield name + ', shuffled', shuffled(run, make)
         else:
             yield name, file_of(run)
+
+
+def files(seed=2001):
+    """(name, bytes): the good runs in travel order or shuffled, what make_files damages, and long files; none above 4096 bytes. The named ones come first, so that wrong methods are soon told apart."""
+    for name, run in (*named(), *single_named()):
+        yield name, file_of(run)
+    yield from single_faults()
+    yield from in_turn(families(), random.Random(seed))
+    yield from in_turn(single_families(), random.Random(seed + 1))
     yield 'empty', b''
     for name, run in limit_runs():
         yield name, file_of(run)
+        only = single(name, run)
+        yield only[0], file_of(only[1])
     yield from long_files()
+    yield from long_files('longest, up only,', up_only)
+    yield from rubbish_files()
     for which, data in enumerate(make_files.files()):
         if len(data) <= 4096:
             yield 'damaged %d' % which, data
@@ -409,7 +515,7 @@ def rule_breakers(make):
     """A good run with one rule broken, at every place where it can be."""
     base = sensor(make, 5, 3, 40)
     for m, n in ((0, 3), (2, 3), (12, 3), (2**64 - 1, 3), (5, 0), (5, 11), (5, 2**64 - 1), (2**63, 2**63), (0, 0)):
-        yield 'm of %d and n of %d' % (m, n), Run(m, n, base.x, base.y)
+        yield 'm of %d and n of %d' % (m, n), base.but(m=m, n=n)
     for i in range(base.m):
         for v in beyond(X_LIMIT):
             yield 'input %d of %d' % (i, v), with_point(base, i, v)
@@ -418,7 +524,7 @@ def rule_breakers(make):
             yield 'reading %s of %d' % (place, v), with_reading(base, place, v)
         for s in (0, 1):
             for gap in (SCATTER, SCATTER + 1, -SCATTER, -SCATTER - 1):
-                tied = Run(base.m, base.n, base.x, {**base.y, **{(s, c, i): 0 for c in range(base.n)}})
+                tied = base.but(y={**base.y, **{(s, c, i): 0 for c in range(base.n)}})
                 yield 'scatter of %d at stroke %d, point %d' % (gap, s, i), with_reading(tied, (s, i % base.n, i), gap)
         if i:
             for down in (0, 1, 5000):
@@ -431,7 +537,7 @@ def two_rules(make):
     far_y, far_x = with_reading(base, (1, 2, 1), Y_LIMIT + 1), with_point(base, 3, X_LIMIT + 1)
     both = with_point(far_y, 3, X_LIMIT + 1)
     level_pair, loose = with_point(base, 2, base.x[1]), with_reading(base, (0, 1, 0), base.y[0, 0, 0] + SCATTER + 2000)
-    yield 'm and an input', Run(2, 3, far_x.x, far_x.y)
+    yield 'm and an input', far_x.but(m=2)
     yield 'a reading before an input', both
     yield 'an input before a reading', with_reading(far_x, (0, 0, 4), -Y_LIMIT - 1)
     yield 'a reading and inputs that do not rise', with_point(far_y, 1, base.x[0])
@@ -441,11 +547,55 @@ def two_rules(make):
     yield 'scatter of the down stroke first', with_reading(with_reading(base, (0, 1, 3), base.y[0, 0, 3] + SCATTER + 2000), (1, 1, 2), base.y[1, 0, 2] + SCATTER + 2000)
     yield 'one cycle and an input', with_point(sensor(make, 5, 1, 40), 4, -X_LIMIT - 1)
     negative = moved(base, -base.x[2])
-    yield 'a negative input and m', Run(2, 3, negative.x, negative.y)
+    yield 'a negative input and m', negative.but(m=2)
     yield 'a negative input and a reading', with_reading(negative, (1, 2, 1), Y_LIMIT + 1)
     yield 'negative inputs that do not rise', with_point(negative, 1, negative.x[0])
     yield 'a negative input and scatter', with_reading(negative, (0, 1, 0), loose.y[0, 1, 0])
-    yield 'a negative input and one cycle', Run(5, 1, negative.x, negative.y)
+    yield 'a negative input and one cycle', negative.but(n=1)
+
+
+def single_breakers(make):
+    """A run with an up stroke only with one rule broken, at every place where it can be, and every second time with rubbish in the unused stroke, at all points or at the first one."""
+    base = up_only(sensor(make, 4, 3, 40))
+    broken = [('m of %d and n of %d' % (m, n), base.but(m=m, n=n)) for m, n in ((2, 3), (12, 3), (2**64 - 1, 3), (4, 0), (4, 11), (4, 2**64 - 1))]
+    for i in range(base.m):
+        for v in beyond(X_LIMIT):
+            broken.append(('input %d of %d' % (i, v), with_point(base, i, v)))
+        for c, v in enumerate(beyond(Y_LIMIT)):
+            place = 0, c % base.n, i
+            broken.append(('reading %s of %d' % (place, v), with_reading(base, place, v)))
+        for gap in (SCATTER, SCATTER + 1, -SCATTER, -SCATTER - 1):
+            tied = base.but(y={**base.y, **{(0, c, i): 0 for c in range(base.n)}})
+            broken.append(('scatter of %d at point %d' % (gap, i), with_reading(tied, (0, i % base.n, i), gap)))
+        if i:
+            for down in (0, 1, 5000):
+                broken.append(('input %d not above input %d by %d' % (i, i - 1, down), with_point(base, i, base.x[i - 1] - down)))
+    for which, (name, run) in enumerate(broken):
+        yield name + ', up only', unused_rubbish(run, make) if which % 2 else run
+
+
+def unused(make):
+    """Rubbish in the unused stroke, which changes nothing: each is named for the run that it is the same as. The down stroke that the run was made of is left there once, too."""
+    for name, run in named():
+        yield name + ', up only, with its down stroke unused', run.but(strokes=1)
+    for which, (name, run) in enumerate((*single_named(), *single_families())):
+        if which % 4 == 0 or which < 20:
+            yield name + ', with rubbish in the unused stroke', unused_rubbish(run, make)
+    for name, run in single_named():
+        yield name + ', with rubbish behind and in the unused stroke', rubbish_behind(run, make)
+    sample = up_only(paper_run())
+    for i in range(3):
+        for v in beyond(Y_LIMIT):
+            yield 'sample, up only, with %d unused at point %d' % (v, i), with_reading(sample, (1, 1, i), v)
+        yield 'sample, up only, with scatter unused at point %d' % i, with_reading(sample, (1, 1, i), SCATTER + 1)
+
+
+def stroke_counts(make):
+    """Stroke counts that no run has, alone and with another rule broken: 3 is due, at place 0."""
+    for strokes in NO_STROKES:
+        run = sensor(make, 4, 2, 40)
+        for what, other in (('nothing else', run), ('m of 2', run.but(m=2)), ('an input beyond', with_point(run, 3, X_LIMIT + 1)), ('inputs alike', with_point(run, 3, run.x[2])), ('scatter', with_reading(run, (0, 1, 3), run.y[0, 0, 3] - SCATTER - 1)), ('one cycle', run.but(n=1)), ('the up stroke alone', up_only(run))):
+            yield 'stroke count of %d and %s' % (strokes, what), other.but(strokes=strokes)
 
 
 def rubbish_behind(run, make):
@@ -453,7 +603,7 @@ def rubbish_behind(run, make):
     far = lambda limit: make.choice(list(beyond(limit)))
     x = {**{i: far(X_LIMIT) for i in range(POINTS)}, **run.x}
     y = {**{(s, c, i): far(Y_LIMIT) for s in (0, 1) for c in range(CYCLES) for i in range(POINTS)}, **run.y}
-    return Run(run.m, run.n, x, y)
+    return run.but(x=x, y=y)
 
 
 def ignored(make):
@@ -469,8 +619,12 @@ def hand_runs(seed=31):
     make = random.Random(seed)
     yield from good_runs()
     yield from limit_runs()
+    for name, run in limit_runs():
+        yield single(name, run)
     for family in (rule_breakers, two_rules, ignored):
         yield from family(make)
+    for family in (single_breakers, unused, stroke_counts):
+        yield from family(random.Random(seed + 1))
     before = None
     for which, (run, _) in enumerate(make_files.hand_runs()):
         # the writer's runs stand once for every length of its buffer

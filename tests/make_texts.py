@@ -1,10 +1,10 @@
-"""Makes the named texts for the comparison of typed texts: good ones in every dress, and ones damaged in every way that docs/TEXT.md names, alone and two at once."""
+"""Makes the named texts for the comparison of typed texts: good ones in every dress, and ones damaged in every way that docs/TEXT.md names, alone and two at once; then the same of upstrokes, which are runs with an up stroke only. A family takes the runs that it is made of whole, or with their up strokes only."""
 import random
 
 import make_sheets
-from make_files import paper_run, random_run, with_point, with_reading
+from make_files import paper_run, random_run, up_only, with_point, with_reading
 from second.runfile import CYCLES, POINTS, SCATTER, Run
-from second.text import LONGEST, joined, record_lines
+from second.text import LONGEST, joined, opening_line, record_lines
 
 # the byte-order mark of UTF-8, as its codec writes it
 MARK = ''.encode('utf-8-sig')
@@ -22,6 +22,13 @@ SMALLS = (b'0', b'1', b'2', b'3', b'4', b'9', b'10', b'11', b'12', b'99', b'00',
 # bytes that are no blanks here, though they are somewhere
 NO_BLANKS = (b'\x00', b'\x0b', b'\x0c', b'\x1c', b'\x1f', b'\x85', b'\xa0', b'\xc2\xa0', b'\xe2\x80\x83', b'\xef\xbb\xbf', b',', b'_', b'-')
 WORDS = (b'points', b'cycles', b'point', b'input', b'up', b'down', b'cycle', b'reads', b'note')
+# how the third word of an opening may be misspelt
+MISSPELT = (b'upstroke', b'Upstrokes', b'UPSTROKES', b'upStrokes', b'up strokes', b'up-strokes', b'upstrokess', b'upstrokes:', b'upstroke s', b'upstrok', b'sekortspu', b'strokes', b'ups', b'up', b'down', b'downstrokes', b'updown', b'cycle', b'cyclesupstrokes', b'cycles upstrokes', b'upstrokes cycles', b'upstrokes upstrokes', b'upstrokes\x00', b'\xc2\xa0upstrokes', b'upcycles', b'')
+
+
+def both(run):
+    """A run as it is; in its place up_only makes the texts of upstrokes."""
+    return run
 
 
 def inserted(lines, at, line):
@@ -97,23 +104,23 @@ def named(make):
 
 # Good texts
 
-def good(make):
+def good(make, only=both):
     """Runs of the Standard and of the head, every size, and runs at the limits of their numbers."""
     for name, run in make_sheets.named():
-        yield name, joined(record_lines(run))
+        yield name, joined(record_lines(only(run)))
     for m in range(3, POINTS + 1):
         for n in range(1, CYCLES + 1):
-            yield 'listing of %d points and %d cycles' % (m, n), joined(record_lines(random_run(make, m, n)))
+            yield 'listing of %d points and %d cycles' % (m, n), joined(record_lines(only(random_run(make, m, n))))
     for name, run in make_sheets.extremes(make):
-        yield name, joined(mixed(record_lines(run), make))
+        yield name, joined(mixed(record_lines(only(run)), make))
 
 
-def shuffled(make):
+def shuffled(make, only=both):
     for which in range(150):
-        yield 'shuffled %d' % which, joined(mixed(record_lines(random_run(make)), make))
+        yield 'shuffled %d' % which, joined(mixed(record_lines(only(random_run(make))), make))
     for which in range(150):
-        yield 'small and shuffled %d' % which, joined(mixed(record_lines(small_run(make)), make))
-    run = small_run(make, 2)
+        yield 'small and shuffled %d' % which, joined(mixed(record_lines(only(small_run(make))), make))
+    run = only(small_run(make, 2))
     lines = record_lines(run)
     for at in range(len(lines)):
         yield 'opening behind line %d' % at, joined(inserted(lines[1:], at, lines[0]))
@@ -141,15 +148,15 @@ def dressed_line(line, make):
     return blanks(make, 3) + spaced + blanks(make, 3)
 
 
-def dressed(make):
+def dressed(make, only=both):
     """Notes, empty lines, several blanks, zeros before numbers, and no line feed at the end."""
     for which in range(250):
-        lines = [dressed_line(line, make) for line in mixed(record_lines(small_run(make)), make)]
+        lines = [dressed_line(line, make) for line in mixed(record_lines(only(small_run(make))), make)]
         for _ in range(make.randint(0, 12)):
             lines = somewhere(lines, make, make.choice(NOTES + EMPTY))
         text = joined(lines)
         yield 'dressed %d' % which, text if make.random() < 0.5 else text[:-1]
-    lines = record_lines(paper_run())
+    lines = record_lines(only(paper_run()))
     yield 'carriage returns', b''.join(line + b'\r\n' for line in lines)
     yield 'carriage returns and none behind the last line', b'\r\n'.join(lines)
     yield 'no last line feed', joined(lines)[:-1]
@@ -162,9 +169,9 @@ def dressed(make):
         yield 'note %d as the last line without a line feed' % which, joined(lines) + note
 
 
-def parted(make):
+def parted(make, only=both):
     """Tabs and carriage returns between words part them as spaces do."""
-    lines = record_lines(paper_run())
+    lines = record_lines(only(paper_run()))
     for what, blank in (('a tab', b'\t'), ('a carriage return', b'\r'), ('a tab and a space', b'\t '), ('a space and a tab', b' \t'), ('two tabs', b'\t\t')):
         yield what + ' between words', joined(line.replace(b' ', blank) for line in lines)
         for at in (0, 1, len(lines) - 1):
@@ -178,9 +185,9 @@ def other_byte(make):
     return make.choice((make.randrange(256), make.choice(b'0123456789'), make.choice(b' \t\r\n-'), make.choice(b'acdeilnoprstuy')))
 
 
-def bytes_changed(make):
+def bytes_changed(make, only=both):
     """A byte changed, dropped or doubled at every place of a small text, and several bytes of others."""
-    text = joined(record_lines(paper_run()))
+    text = joined(record_lines(only(paper_run())))
     for at in range(len(text)):
         yield 'sample with byte %d changed' % at, text[:at] + bytes([other_byte(make)]) + text[at + 1:]
         if at % 2:
@@ -190,16 +197,16 @@ def bytes_changed(make):
     for at in range(0, len(text), 3):
         yield 'sample cut at %d' % at, text[:at]
     for which in range(200):
-        text = bytearray(joined(mixed(record_lines(small_run(make)), make)))
+        text = bytearray(joined(mixed(record_lines(only(small_run(make))), make)))
         for _ in range(make.randint(1, 3)):
             text[make.randrange(len(text))] = other_byte(make)
         yield 'bytes changed %d' % which, bytes(text)
 
 
-def lines_changed(make):
+def lines_changed(make, only=both):
     """Each line of small texts doubled, dropped, and put elsewhere twice with another number."""
     for n in (1, 2):
-        lines = mixed(record_lines(random_run(make, 3, n)), make)
+        lines = mixed(record_lines(only(random_run(make, 3, n))), make)
         for at, line in enumerate(lines):
             yield '%d cycles without line %d' % (n, at + 1), joined(dropped(lines, at))
             yield '%d cycles with line %d doubled' % (n, at + 1), joined(inserted(lines, at, line))
@@ -222,23 +229,27 @@ def numbers(make):
         yield '%r a second time' % reads_again, joined(lines + [reads_again])
 
 
-def smalls(make):
+def smalls(make, only=both):
     """What may stand for a point, a cycle, and a number of them."""
-    lines = record_lines(random_run(make, 4, 2))
+    run = only(random_run(make, 4, 2))
+    lines = record_lines(run)
     forms = ((0, b'points %s cycles 2'), (0, b'points 4 cycles %s'), (1, b'point %s input 5'), (5, b'up point 1 cycle %s reads 5'), (12, b'down point %s cycle 1 reads 5'))
+    if run.strokes == 1:
+        forms = ((0, b'points %s upstrokes 2'), (0, b'points 4 upstrokes %s'), *forms[2:])
     for given in SMALLS:
         for at, words in forms:
             yield 'line %d of %r' % (at + 1, words % given), joined(changed(lines, at, words % given))
             yield '%r behind the others' % (words % given), joined(lines + [words % given])
 
 
-def sizes(make):
+def sizes(make, only=both):
     """Every size about the limits, with the lines that it needs, or with none."""
     for m in (0, 1, 2, 3, 11, 12, 13, 99):
         for n in (0, 1, 10, 11, 12, 99):
-            yield 'nothing but %d points and %d cycles' % (m, n), b'points %d cycles %d' % (m, n)
+            run = only(level_run(m, n))
+            yield 'nothing but %d points and %d cycles' % (m, n), opening_line(m, n, run.strokes)
             if m < 14 and n < 13:
-                lines = record_lines(level_run(m, n))
+                lines = record_lines(run)
                 yield 'a run of %d points and %d cycles' % (m, n), joined(lines)
                 yield 'a shuffled run of %d points and %d cycles' % (m, n), joined(mixed(lines, make))
 
@@ -261,10 +272,10 @@ def word_damages(words):
         yield [more] + words
 
 
-def words(make):
-    """A word too many, missing or spelt otherwise in each kind of line."""
-    lines = record_lines(random_run(make, 3, 1))
-    for at in (0, 2, 4, 9):
+def words(make, only=both):
+    """A word too many, missing or spelt otherwise in each kind of line; the last one is there on both strokes alone."""
+    lines = record_lines(only(random_run(make, 3, 1)))
+    for at in (at for at in (0, 2, 4, 9) if at < len(lines)):
         for damaged in word_damages(lines[at].split(b' ')):
             line = b' '.join(damaged)
             yield 'line %d of %r' % (at + 1, line), joined(changed(lines, at, line))
@@ -285,15 +296,15 @@ def no_blanks(make):
 
 # Faults of the whole run
 
-def shape(make):
+def shape(make, only=both):
     """Inputs that do not rise at each point, scatter on the limit and beyond at each place, the lines shuffled."""
     for m in (3, 5, 11):
-        run = level_run(m, 2)
+        run = only(level_run(m, 2))
         for i in range(1, m):
             for x in (run.x[i - 1], run.x[i - 1] - 1, run.x[0] - 7):
                 yield 'input %d of %d among %d points' % (i, x, m), joined(mixed(record_lines(with_point(run, i, x)), make))
-        yield 'falling inputs of %d points' % m, joined(record_lines(Run(m, 2, {i: -i for i in range(m)}, run.y)))
-    run = level_run(4, 3)
+        yield 'falling inputs of %d points' % m, joined(record_lines(run.but(x={i: -i for i in range(m)})))
+    run = only(level_run(4, 3))
     for s in (0, 1):
         for i in range(4):
             for gap in (SCATTER, SCATTER + 1, -SCATTER, -SCATTER - 1):
@@ -304,7 +315,7 @@ def shape(make):
         yield 'scatter at points %d and %d' % (i, other), joined(mixed(record_lines(two), make))
         both = with_point(with_reading(run, (0, 1, i), SCATTER + 1), 2, 10)
         yield 'scatter at point %d and an input that does not rise, %d' % (i, other), joined(mixed(record_lines(both), make))
-    strokes_apart = with_reading(with_reading(level_run(3, 1), (0, 0, 1), 10**6), (1, 0, 1), -10**6)
+    strokes_apart = with_reading(with_reading(only(level_run(3, 1)), (0, 0, 1), 10**6), (1, 0, 1), -10**6)
     yield 'strokes apart at one point', joined(record_lines(strokes_apart))
 
 
@@ -315,7 +326,11 @@ def not_understood(lines, run, make):
 
 
 def second_opening(lines, run, make):
-    return somewhere(lines, make, make.choice((b'points %d cycles %d' % (run.m, run.n), b'points 3 cycles 1', b'points 99 cycles 0')))
+    """A second opening; in a text of upstrokes it may be one of either form."""
+    again = (b'points %d cycles %d' % (run.m, run.n), b'points 3 cycles 1', b'points 99 cycles 0')
+    if run.strokes == 1:
+        again += tuple(line.replace(b'cycles', b'upstrokes') for line in again)
+    return somewhere(lines, make, make.choice(again))
 
 
 def no_opening(lines, run, make):
@@ -323,7 +338,8 @@ def no_opening(lines, run, make):
 
 
 def bad_size(lines, run, make):
-    size = make.choice((b'points 2 cycles 1', b'points 12 cycles 1', b'points 3 cycles 0', b'points 3 cycles 11', b'points 0 cycles 99'))
+    m, n = make.choice(((2, 1), (12, 1), (3, 0), (3, 11), (0, 99)))
+    size = opening_line(m, n, run.strokes)
     return [size if line.startswith(b'points') else line for line in lines]
 
 
@@ -359,7 +375,7 @@ def not_rising(lines, run, make):
 
 
 def loose(lines, run, make):
-    s, c, i = make.randrange(2), make.randrange(run.n), make.randrange(run.m)
+    s, c, i = make.randrange(run.strokes), make.randrange(run.n), make.randrange(run.m)
     front = b'%s point %d cycle %d reads ' % ((b'up', b'down')[s], i, c)
     return [front + b'%d' % make.choice((SCATTER + 1, -SCATTER - 1)) if line.startswith(front) else line for line in lines]
 
@@ -372,12 +388,17 @@ def too_long(lines, run, make):
     return somewhere(out, make, b'note '.ljust(more, b'x'))
 
 
+def down_line(lines, run, make):
+    """A line of the down stroke, which a text of upstrokes has not; it may be beyond its limits as well, or of no cycle."""
+    return somewhere(lines, make, b'down point %d cycle %d reads %d' % (make.randrange(run.m), make.choice((0, 0, run.n)), make.choice((0, 5, 1000001))))
+
+
 FAULTS = (not_understood, second_opening, no_opening, bad_size, no_such_place, beyond_limits, told_twice, missing, not_rising, loose)
 
 
-def faulty(faults, make):
+def faulty(faults, make, only=both):
     """A small good text with these faults, one put in after the other."""
-    run = level_run(make.randint(3, 4), make.randint(2, 3))
+    run = only(level_run(make.randint(3, 4), make.randint(2, 3)))
     lines = record_lines(run)
     if make.random() < 0.7:
         lines = mixed(lines, make)
@@ -390,16 +411,21 @@ def in_words(faults):
     return ' and '.join(fault.__name__.replace('_', ' ') for fault in faults)
 
 
-def two_faults(make):
+def two_faults(make, only=both, faults_here=FAULTS):
     """Each fault with each, itself too, in both orders; each with a text that is too long; and one, three or four at once."""
-    for one in FAULTS:
-        for other in FAULTS:
+    for one in faults_here:
+        for other in faults_here:
             for which in range(3):
-                yield '%s, %d' % (in_words((one, other)), which), faulty((one, other), make)
-        yield in_words((one, too_long)), faulty((one, too_long), make)
+                yield '%s, %d' % (in_words((one, other)), which), faulty((one, other), make, only)
+        yield in_words((one, too_long)), faulty((one, too_long), make, only)
     for which in range(300):
-        faults = make.sample(FAULTS, make.choice((1, 3, 3, 4)))
-        yield '%s, %d by chance' % (in_words(faults), which), faulty(faults, make)
+        faults = make.sample(faults_here, make.choice((1, 3, 3, 4)))
+        yield '%s, %d by chance' % (in_words(faults), which), faulty(faults, make, only)
+
+
+def single_faults(make, only):
+    """The same of upstrokes, with one fault more that they may have."""
+    return two_faults(make, only, (*FAULTS, down_line))
 
 
 # Long texts
@@ -434,13 +460,13 @@ def lengths(make):
         yield 'lines and %d line feeds' % (length - len(joined(lines))), joined(lines).rjust(length, b'\n')
 
 
-def most_records(make):
+def most_records(make, only=both):
     """Texts of more records than any run has: the fault, or the record told twice, early or late."""
-    run = random_run(make, POINTS, CYCLES)
+    run = only(random_run(make, POINTS, CYCLES))
     lines = record_lines(run)
     opening, records = lines[0], lines[1:]
     again = [make.choice(records) for _ in range(80)]
-    one = b'down point 10 cycle 9 reads 5'
+    one = (b'up', b'down')[run.strokes - 1] + b' point 10 cycle 9 reads 5'
     late = {'nothing': [], 'a line not understood': [b'point 0'], 'a second opening': [opening], 'no such point': [b'point 11 input 0'], 'a reading beyond': [b'up point 0 cycle 0 reads 1000001'], 'a note': [b'note the end']}
     for what, tail in late.items():
         yield 'every record twice and %s' % what, joined(lines + records + tail)
@@ -450,8 +476,8 @@ def most_records(make):
         yield 'one reading 400 times and %s' % what, joined([opening] + [one] * 400 + tail)
         yield '%s, then every record twice' % what, joined([opening] + tail + records + records)
         yield 'no opening, every record twice and %s' % what, joined(records + records + tail)
-        yield 'a size beyond the limits, every record twice and %s' % what, joined([b'points 12 cycles 10'] + records + records + tail)
-        yield 'a small size, every record twice and %s' % what, joined([b'points 10 cycles 10'] + records + records + tail)
+        yield 'a size beyond the limits, every record twice and %s' % what, joined([opening_line(12, 10, run.strokes)] + records + records + tail)
+        yield 'a small size, every record twice and %s' % what, joined([opening_line(10, 10, run.strokes)] + records + records + tail)
         yield 'records without one, again, and %s' % what, joined(lines[:-1] + again + tail)
         yield '300 records outside and %s' % what, joined([opening] + [b'up point 0 cycle 10 reads 0'] * 300 + tail)
         yield '1700 readings of one and %s' % what, joined([opening] + [one] * 1700 + tail)
@@ -497,14 +523,101 @@ def smallest(make):
         yield 'a text of %r' % text, text
 
 
+# Texts of upstrokes
+
+def named_single(make, only):
+    """The up stroke of the paper's run with one thing changed, by name: these tell wrong methods apart."""
+    lines = record_lines(only(paper_run()))
+    opening, points, readings = lines[0], lines[1:4], lines[4:]
+    down, cycles = b'down point 0 cycle 0 reads 4', b'points 3 cycles 2'
+    yield 'upstrokes of the sample', joined(lines)
+    yield 'upstrokes of the sample in reverse', joined(lines[::-1])
+    yield 'upstrokes with a down line', joined(lines + [down])
+    yield 'upstrokes behind a down line', joined([down] + lines)
+    yield 'upstrokes with a down line twice', joined(lines + [down, down])
+    yield 'upstrokes with a down line and its reading beyond', joined(lines + [b'down point 0 cycle 0 reads 1000001'])
+    yield 'upstrokes with a down line of no cycle', joined(lines + [b'down point 0 cycle 2 reads 4'])
+    yield 'upstrokes with a down line, then one not understood', joined(lines + [down, b'down point 0'])
+    yield 'upstrokes with a down line, then a reading beyond', joined(lines[:-1] + [down, b'up point 2 cycle 1 reads 1000001'])
+    yield 'upstrokes with a reading beyond, then a down line', joined(lines[:-1] + [b'up point 2 cycle 1 reads 1000001', down])
+    yield 'upstrokes with a reading twice, then a down line', joined(lines + [readings[0], down])
+    yield 'upstrokes of both strokes', joined([opening] + record_lines(paper_run())[1:])
+    yield 'cycles of the up stroke alone', joined([cycles] + lines[1:])
+    yield 'upstrokes with an opening of cycles', joined(lines + [cycles])
+    yield 'upstrokes behind an opening of cycles', joined([cycles] + lines)
+    yield 'upstrokes with another opening of upstrokes', joined(lines + [b'points 3 upstrokes 1'])
+    yield 'cycles with an opening of upstrokes', joined(record_lines(paper_run()) + [opening])
+    yield 'cycles behind an opening of upstrokes', joined([opening] + record_lines(paper_run()))
+    yield 'both openings and nothing else', joined([opening, cycles])
+    yield 'both openings the other way round', joined([cycles, opening])
+    yield 'an opening of upstrokes beyond the limits, then one of cycles', joined([b'points 12 upstrokes 2', cycles])
+    yield 'upstrokes with one letter less', joined([b'points 3 upstroke 2'] + lines[1:])
+    yield 'upstrokes with too large a number of them', joined([b'points 3 upstrokes 100'] + lines[1:])
+    yield 'upstrokes without a reading of the second cycle', joined(lines[:7] + lines[8:])
+    yield 'upstrokes without the first cycle', joined(lines[:4] + lines[7:])
+    yield 'upstrokes without the last reading', joined(lines[:-1])
+    yield 'upstrokes without a point', joined([opening] + points[1:] + readings)
+    yield 'upstrokes with scatter at the last point', joined([opening] + points[::-1] + readings[:-1] + [b'up point 2 cycle 1 reads 12001'])
+    yield 'upstrokes with two inputs alike', joined([opening, b'point 2 input 10'] + points[:2] + readings)
+    yield 'upstrokes with a byte-order mark', MARK + joined(lines)
+    yield 'upstrokes and no last line feed', joined(lines)[:-1]
+    yield 'upstrokes with capital letters', joined(lines).replace(b'upstrokes', b'Upstrokes')
+    for at, other in enumerate(MISSPELT):
+        yield 'upstrokes misspelt %d' % at, joined([b'points 3 ' + other + b' 2'] + lines[1:])
+        yield 'upstrokes misspelt behind %d' % at, joined(lines + [b'points 3 ' + other + b' 2'])
+    for line in (b'points', b'points 3', b'points 3 upstrokes', b'points 3 upstrokes 2 2', b'points 3 upstrokes 2 note', b'points upstrokes 3 2', b'upstrokes 3 points 2', b'upstrokes 2', b'point 3 upstrokes 2', b'points 3 upstrokes -2', b'points 3 upstrokes two', b'points -3 upstrokes 2', b'points 3 upstrokes 002', b'points 003 upstrokes 2'):
+        yield 'upstrokes told as %s' % line.decode('ascii'), joined([line] + lines[1:])
+    for line in (b' points  3\tupstrokes 02 ', b'points 03 upstrokes 2\r', b'\tpoints\r3 upstrokes  2'):
+        yield 'upstrokes told as %r' % line, joined([line] + lines[1:])
+
+
+def either_opening(make, only):
+    """Texts with openings of both forms anywhere, and their records, or with one of the other form than their records ask for."""
+    for which in range(60):
+        run = small_run(make)
+        lines = mixed(record_lines(make.choice((run, only(run)))), make)
+        strokes = make.choice((1, 2))
+        if make.random() < 0.5:
+            lines = somewhere(lines, make, opening_line(run.m, run.n, strokes))
+        else:
+            lines = [opening_line(run.m, run.n, strokes) if line.startswith(b'points') else line for line in lines]
+        yield 'either opening %d' % which, joined(lines)
+
+
+def random_single(make, only):
+    """Good lines without any order behind them, and random words, upstrokes among both."""
+    opening = b'points 3 upstrokes 2'
+    for which in range(150):
+        lines = mixed(record_lines(only(level_run(3, 2))), make)
+        for _ in range(make.choice((1, 1, 2, 3))):
+            lines = changed(lines, make.randrange(len(lines)), make.choice((random_line(make), opening, b'points 3 upstrokes %d' % make.randrange(4))))
+        yield 'lines put in place of others %d' % which, joined(lines)
+    for which in range(60):
+        lines = [b' '.join(make.choice(WORDS + (b'upstrokes', b'upstrokes', b'0', b'1', b'3', b'-5')) for _ in range(make.randrange(6))) for _ in range(make.randrange(6))]
+        yield 'random words %d' % which, joined([opening] * make.randrange(2) + lines)
+
+
 FAMILIES = (named, smallest, good, shuffled, dressed, parted, bytes_changed, lines_changed, numbers, smalls, sizes, words, no_blanks, shape, two_faults, lengths, most_records, random_bytes, random_words, random_lines)
+
+
+# These take up_only for the runs of which they are made, and their texts are named anew but for those of the first two.
+SINGLE_FAMILIES = (named_single, either_opening, good, shuffled, dressed, parted, bytes_changed, lines_changed, smalls, sizes, words, shape, single_faults, most_records, random_single)
+
+
+def all_texts(seed):
+    """(name, text): those of both strokes first; the others are made by numbers of their own, so that they do not change them."""
+    make, single = random.Random(seed), random.Random(seed + 1)
+    for family in FAMILIES:
+        yield from family(make)
+    for family in SINGLE_FAMILIES:
+        for name, text in family(single, up_only):
+            yield name if family in SINGLE_FAMILIES[:2] else name + ', upstrokes', text
 
 
 def texts(seed=4150):
     """(name, text), always the same ones in the same order, each text once."""
-    make, made = random.Random(seed), set()
-    for family in FAMILIES:
-        for name, text in family(make):
-            if text not in made:
-                made.add(text)
-                yield name, text
+    made = set()
+    for name, text in all_texts(seed):
+        if text not in made:
+            made.add(text)
+            yield name, text

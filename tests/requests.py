@@ -17,7 +17,7 @@ def file_request(kind, data, room):
 
 
 def run_request(kind, run, room):
-    return word(kind) + word(room) + word(run.m) + word(run.n) + signed(run.inputs() + run.readings())
+    return word(kind) + word(room) + word(run.m) + word(run.n) + word(run.strokes) + signed(run.inputs() + run.readings())
 
 
 def lent(room):

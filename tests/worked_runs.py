@@ -6,7 +6,7 @@
     up 1: 0 899 2000
     down 1: 4 910 2004
 
-one up and one down line for each cycle, the lowest input first on both strokes. A row too long for one line goes on in a second line of the same name."""
+one up and one down line for each cycle, the lowest input first on both strokes; a run with an up stroke only has no down line. A row too long for one line goes on in a second line of the same name."""
 import os
 import re
 import sys
@@ -43,7 +43,8 @@ def run_of_rows(told):
         if len(values) != len(inputs):
             raise ValueError('%s has %d readings for %d inputs' % (row, len(values), len(inputs)))
         readings.update({(int(stroke == 'down'), int(cycle) - 1, i): y for i, y in enumerate(values)})
-    return Run(len(inputs), len(told) // 2, dict(enumerate(inputs)), readings)
+    strokes = 2 if any(row.startswith('down') for row in told) else 1
+    return Run(len(inputs), len(told) // strokes, dict(enumerate(inputs)), readings, strokes)
 
 
 def file_of_text(folder, name):

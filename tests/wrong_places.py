@@ -1,5 +1,6 @@
 """Wrong methods of telling which record a place means, each with a file that tells it from the right one."""
 from second.place import Places
+from second.runfile import OPENINGS
 
 
 class FromZero(Places):
@@ -49,6 +50,46 @@ class CloseItself(Places):
         return (len(self.found), b'close') if self.number == 8 else super().refused()
 
 
+class KnowsNoFive(Places):
+    """An opening of an up stroke only is told as a kind that may not stand there."""
+
+    def refused(self):
+        number, words = super().refused()
+        return (1, b'kind 5') if number == 1 and words.startswith(b'points') and OPENINGS[self.found[0][1][1]] == 1 else (number, words)
+
+
+class EveryOpeningOfCycles(Places):
+    """An opening of an up stroke only is told as one of both strokes."""
+
+    def refused(self):
+        number, words = super().refused()
+        return number, words.replace(b'upstrokes', b'cycles')
+
+
+class DownAsStroke(Places):
+    """A down reading that the run has no stroke for is told as a stroke that no run has."""
+
+    def refused(self):
+        number, words = super().refused()
+        return number, b'stroke 1' if words.startswith(b'down') and self.sizes()[2] == 1 else words
+
+
+class MissingOfBothStrokes(Places):
+    """What is missing is looked for on both strokes of every run."""
+
+    def sizes(self):
+        m, n, _ = super().sizes()
+        return m, n, 2
+
+
+class LaterOpeningAsOpening(Places):
+    """A second opening is told as an opening, not as a kind that may not stand there."""
+
+    def refused(self):
+        number, words = super().refused()
+        return number, b'points' if words in (b'kind 1', b'kind 5') and number > 1 else words
+
+
 # What is done wrongly, the method, and the file that tells it apart.
 WRONG = [
     ('counting records from 0', FromZero, 'x of 30001'),
@@ -57,6 +98,11 @@ WRONG = [
     ('naming the last record at the place', LastTold, 'longest with a second reading and rubbish'),
     ('taking a point for a record', PointAsRecord, 'scatter of 10001'),
     ('naming the close under 8', CloseItself, 'longest with 1 bytes behind'),
+    ('knowing no opening of kind 5', KnowsNoFive, 'sample, up only, of 12 points'),
+    ('telling every opening as one of cycles', EveryOpeningOfCycles, 'sample, up only, of 12 points'),
+    ('telling a down reading as a stroke that no run has', DownAsStroke, 'sample, up only, with a down reading'),
+    ('looking for the down stroke of every run', MissingOfBothStrokes, 'sample, up only, without the second cycle'),
+    ('telling a second opening as an opening', LaterOpeningAsOpening, 'sample with an opening of an up stroke only'),
 ]
 
 

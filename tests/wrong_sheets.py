@@ -4,8 +4,8 @@ from math import ceil, floor
 
 import compare_files
 import make_files
-from second import lines, rational
-from second.sheet import DOWN, UP, Bench, refused, sheet
+from second import lines, rational, runfile
+from second.sheet import DOWN, NEED_CYCLES, UP, Bench, filled, refused, sheet
 
 HALF = Fraction(1, 2)
 
@@ -232,6 +232,147 @@ class SameSheetAlways(Bench):
         Bench.__init__(self, make_files.paper_run(), data)
 
 
+# Readings of C-13, of runs with an up stroke only
+
+class SixteenAfterThirteen(Bench):
+    def barred(self, name):
+        return 13 if name in NEED_CYCLES and self.run.n == 1 else Bench.barred(self, name)
+
+
+class ThirteenForSixteen(Bench):
+    def barred(self, name):
+        """A missing stroke is taken for a missing cycle."""
+        return {16: 13}.get(Bench.barred(self, name), Bench.barred(self, name))
+
+
+class SixteenAfterEleven(Bench):
+    def barred(self, name):
+        """A number that the line itself is refused with comes first."""
+        told = Bench.barred(self, name)
+        return self.measured(self.independent_line).number or 16 if told == 16 else told
+
+
+class SixteenForEveryIndex(Bench):
+    def barred(self, name):
+        return Bench.barred(self, name) or Bench.barred(self, 'lh')
+
+
+class SixteenForFewerIndices(Bench):
+    """One of the four indices is answered of an up stroke only, from the stroke that is there; this one tells hysteresis, with the up stroke for the down stroke."""
+
+    answered = 'hysteresis'
+
+    def barred(self, name):
+        """What is left behind 16, if anything."""
+        if name == self.answered and self.single():
+            return 13 if name in NEED_CYCLES and self.run.n == 1 else 0
+        return Bench.barred(self, name)
+
+    def hysteresis_width(self):
+        return Fraction(0) if self.single() else Bench.hysteresis_width(self)
+
+    def repeatability_width(self):
+        return Fraction(max(self.limits(UP)), self.run.n) if self.single() else Bench.repeatability_width(self)
+
+    def upper(self):
+        """U in the place of D where there is none."""
+        return self.sums(UP if self.single() else DOWN)
+
+    def lh(self):
+        return self.measured(self.best_line(self.band(self.run.n, self.sums(UP), self.upper())))
+
+    def lhr(self):
+        low = [u - k for u, k in zip(self.sums(UP), self.limits(UP))]
+        high = [d + k for d, k in zip(self.upper(), self.limits(UP if self.single() else DOWN))]
+        return self.measured(self.best_line(self.band(self.run.n, low, high)))
+
+
+class HysteresisOfNothing(SixteenForFewerIndices):
+    def hysteresis_width(self):
+        """The unused stroke is taken to read zero."""
+        return Bench.hysteresis_width(self)
+
+
+class RepeatabilityAnswered(SixteenForFewerIndices):
+    answered = 'repeatability'
+
+
+class LhAnswered(SixteenForFewerIndices):
+    answered = 'lh'
+
+
+class LhrAnswered(SixteenForFewerIndices):
+    answered = 'lhr'
+
+
+# An index is a quotient, so that a factor which all means have in common does not show on any sheet, and the unused stroke of a run that was read is zeros: these are told apart by what is answered of runs built by hand.
+
+class UNotTwice(Bench):
+    def walked(self):
+        """T is U where there is one stroke, in units of 1/(2n) all the same."""
+        return (UP,) if self.single() else Bench.walked(self)
+
+
+class TwiceByN(Bench):
+    def totals(self):
+        """T is twice U, and taken by n."""
+        return [2 * t for t in Bench.totals(self)] if self.single() else Bench.totals(self)
+
+
+class UnusedSummed(Bench):
+    def walked(self):
+        return UP, DOWN
+
+
+class DownMeansOfUnused(Bench):
+    def averages(self):
+        told = Bench.averages(self)
+        return told if told.number else told._replace(down=filled(Fraction(v, self.run.n) for v in self.sums(DOWN)))
+
+
+class DownMeansOfUp(Bench):
+    def averages(self):
+        told = Bench.averages(self)
+        return told._replace(down=told.up) if self.single() else told
+
+
+class NoBothMeans(Bench):
+    def averages(self):
+        told = Bench.averages(self)
+        return told._replace(both=filled([])) if self.single() else told
+
+
+class UnusedChecked(Bench):
+    """The unused stroke is held to the limits and to the scatter as the other one is."""
+
+    numbers = (5, 9, 10)
+
+    def __init__(self, run, data=b''):
+        Bench.__init__(self, run, data)
+        both = runfile.verdict(run.but(strokes=2)) if self.single() else self.verdict
+        if both[0] in self.numbers:
+            self.verdict = both
+
+
+class UnusedCheckedForScatter(UnusedChecked):
+    numbers = (10,)
+
+
+class AnyStrokeCount(Bench):
+    def __init__(self, run, data=b''):
+        """Every other count than 1 is taken for two strokes."""
+        Bench.__init__(self, run if run.strokes == 1 else run.but(strokes=2), data)
+
+
+class StrokeCountLast(Bench):
+    def __init__(self, run, data=b''):
+        """3 for the stroke count comes behind the other checks."""
+        Bench.__init__(self, run, data)
+        others = runfile.verdict(run if run.strokes == 1 else run.but(strokes=2))
+        if others[0]:
+            self.verdict = others
+
+
 # What is read wrongly, the method, and the wrong figure it is known for, if any: the file, the line counted from 0, and that line's last field.
 WRONG = [
     ('pairing the jth up reading of the file with the jth down reading', PairedByPlace, None),
@@ -266,8 +407,32 @@ WRONG = [
     ('the sum of differences to the first reading of the other stroke, the squares of those to its own', FirstOfTheOtherStroke, None),
     ('the largest k at every limit point', LargestLimitEverywhere, None),
     ('the first cycle for all cycles', FirstCycleAlone, None),
+    ('16 given after 13', SixteenAfterThirteen, ('a1, up only', 7, '13')),
+    ('13 given for 16', ThirteenForSixteen, ('sample, up only', 6, '13')),
+    ('16 given after 11', SixteenAfterEleven, ('zeros, up only', 6, '11')),
+    ('16 for the linearities of an up stroke only too', SixteenForEveryIndex, ('sample, up only', 1, '16')),
+    ('hysteresis of an up stroke only, walked down as up', SixteenForFewerIndices, ('sample, up only', 6, '0.000')),
+    ('hysteresis of an up stroke only, the other one taken for zeros', HysteresisOfNothing, ('sample, up only', 6, '100.000')),
+    ('repeatability of an up stroke only', RepeatabilityAnswered, ('sample, up only', 7, '0.900')),
+    ('LH of an up stroke only', LhAnswered, ('sample, up only', 8, '2.500')),
+    ('LHR of an up stroke only', LhrAnswered, ('sample, up only', 9, '2.950')),
     ('a program that refuses every run', RefusesEveryRun, None),
     ('a program that prints the same sheet always', SameSheetAlways, None),
+]
+
+
+# What is read wrongly of runs built by hand, the method, and what it is known for: the run, the line's name, and the field of that line, counted from 1, that it gives.
+WRONG_RUNS = [
+    ('T taken for U, not twice U, of an up stroke only', UNotTwice, ('sample, up only', 'independent', 4, '50/1')),
+    ('T of an up stroke only by n', TwiceByN, ('sample, up only', 'independent', 4, '200/1')),
+    ('the unused stroke summed into T', UnusedSummed, ('sample, up only, with its down stroke unused', 'terminal', 6, '97/2000')),
+    ('down means of the unused stroke', DownMeansOfUnused, ('sample, up only, with its down stroke unused', 'down', 1, '4/1')),
+    ('up means told as down means', DownMeansOfUp, ('sample, up only', 'down', 2, '900/1')),
+    ('no means of both for an up stroke only', NoBothMeans, ('sample, up only', 'both', 2, '0/1')),
+    ('the unused stroke held to the limits', UnusedChecked, ('sample, up only, with 1000001 unused at point 2', 'terminal', 1, '5')),
+    ('the unused stroke held to the scatter', UnusedCheckedForScatter, ('sample, up only, with scatter unused at point 1', 'terminal', 1, '10')),
+    ('any stroke count taken for two', AnyStrokeCount, ('stroke count of 3 and nothing else', 'averages', 1, '0')),
+    ('the stroke count checked last', StrokeCountLast, ('stroke count of 0 and an input beyond', 'averages', 1, '5')),
 ]
 
 
@@ -316,4 +481,18 @@ def told_apart(files, dues):
         elif printed and printed[0] != found[0]:
             data, due = by_name[printed[0]]
             told.append(sentence(what, printed[0], due, sheet(data, method)))
+    return wrong, told
+
+
+def runs_told_apart(runs, dues, lines_for):
+    """The same for what is answered of runs built by hand, each wrong method by the run that it is known by; lines_for gives the lines of a method's answers."""
+    wrong, told = [], []
+    by_name = {name: (run, due) for (name, run), due in zip(runs, dues)}
+    for what, method, (name, line, field, figure) in WRONG_RUNS:
+        run, due = by_name[name]
+        right, other = ([told for told in lines if told.startswith(line + ' ')][0] for lines in (due, lines_for(method(run))))
+        if right == other or other.split(' ')[field] != figure:
+            wrong.append('%s gives %r at run %s, where %s is known of it' % (what, other, name, figure))
+        else:
+            told.append('%s differs at run %s: %r, where %r is due' % (what, name, other, right))
     return wrong, told

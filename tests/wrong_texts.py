@@ -3,7 +3,7 @@ import re
 from functools import cached_property
 
 from make_texts import MARK
-from second.runfile import Run, all_places
+from second.runfile import all_places
 from second.text import FORMS, LENGTH, LONGEST, RECORDS, Text, apart_pair, heard, more_told, patterns
 
 
@@ -15,7 +15,7 @@ class PairedByPlace(Text):
         for stroke in (0, 1):
             values = [value for _, place, value in self.told if place[:2] == ('reading', stroke)]
             y.update({(stroke, j // self.m, j % self.m): value for j, value in enumerate(values)})
-        return Run(self.m, self.n, super().run.x, y)
+        return super().run.but(y=y)
 
 
 class FromOne(Text):
@@ -43,7 +43,7 @@ class PointsSorted(Text):
         run = super().run
         order = sorted(run.x, key=run.x.get)
         y = {(s, c, order.index(i)): value for (s, c, i), value in run.y.items()}
-        return Run(run.m, run.n, {j: run.x[i] for j, i in enumerate(order)}, y)
+        return run.but(x={j: run.x[i] for j, i in enumerate(order)}, y=y)
 
 
 class MissingAsZero(Text):
@@ -146,7 +146,7 @@ class MarkCounts(Text):
 class ByListing(Text):
     def order(self):
         """What is missing is looked for as a listing goes: the down stroke with its lowest input first."""
-        return sorted(all_places(self.m, self.n), key=lambda p: (0, p[1]) if p[0] == 'point' else (1, p[2], p[1], p[3]))
+        return sorted(all_places(self.m, self.n, self.strokes), key=lambda p: (0, p[1]) if p[0] == 'point' else (1, p[2], p[1], p[3]))
 
 
 class ReadingsFirst(Text):
@@ -164,7 +164,7 @@ class LowerFirst(Text):
 class DownFirst(Text):
     def pair(self, i):
         """The down stroke is looked at first."""
-        turned = Run(self.run.m, self.run.n, self.run.x, {(1 - s, c, j): y for (s, c, j), y in self.run.y.items()})
+        turned = self.run.but(y={(1 - s, c, j): y for (s, c, j), y in self.run.y.items()})
         s, high, low = apart_pair(turned, i)
         return 1 - s, high, low
 
@@ -175,6 +175,83 @@ class FurthestApart(Text):
         s, _, _ = super().pair(i)
         cycles = sorted(range(self.run.n), key=lambda c: self.run.y[s, c, i])
         return s, cycles[-1], cycles[0]
+
+
+# Readings of upstrokes
+
+class KnowsNoUpstrokes(Text):
+    """The third word of an opening is cycles alone, as it was before C-13."""
+
+    forms = {name: pattern for name, pattern in Text.forms.items() if name != 'upstrokes'}
+
+
+class UpstrokesAsCycles(Text):
+    """A run of upstrokes has both strokes all the same."""
+
+    def __init__(self, text):
+        Text.__init__(self, text)
+        self.strokes = 2 if self.openings else 0
+
+
+class DownLeftOut(Text):
+    """A down line in a text of upstrokes is passed over, as a note is."""
+
+    def __init__(self, text):
+        Text.__init__(self, text)
+        self.told = [(line, place, value) for line, place, value in self.told if self.strokes == 2 or place[:2] != ('reading', 1)]
+
+
+class DownNotUnderstood(Text):
+    """A down line in a text of upstrokes is 42."""
+
+    def form_faults(self):
+        yield from super().form_faults()
+        for line, name, _ in self.spoken:
+            if name == 'down' and self.strokes == 1:
+                yield FORMS, line, 0, 42
+
+
+class OpeningsApart(Text):
+    """An opening of cycles and one of upstrokes are no two of the same; the first one counts."""
+
+    def form_faults(self):
+        for fault in super().form_faults():
+            alike = [line for line, _, _, strokes in self.openings if strokes == self.strokes]
+            if fault[3] != 46 or fault[1] in alike[1:]:
+                yield fault
+
+
+class LastOpening(Text):
+    """The last opening counts, and those before it are passed over."""
+
+    def __init__(self, text):
+        Text.__init__(self, text)
+        if self.openings:
+            self.openings = self.openings[-1:]
+            self.m, self.n, self.strokes = self.openings[0][1:]
+
+
+class TwoUpstrokesACycle(Text):
+    """A number of upstrokes is taken for a number of all strokes: two are a cycle."""
+
+    def __init__(self, text):
+        Text.__init__(self, text)
+        if self.strokes == 1:
+            self.n = self.n // 2
+
+
+class AnyEnding(Text):
+    """upstroke and upstrokes are one word."""
+
+    forms = {**Text.forms, 'upstrokes': re.compile(Text.forms['upstrokes'].pattern.replace(b'upstrokes', b'upstrokes?'))}
+
+
+class OddThirdWord(Text):
+    """Of an opening whose third word is not cycles that word is told, though it may be upstrokes."""
+
+    def odd(self, line):
+        words = line.split()
+        return b'word 3 is not understood' if words[:1] == [b'points'] and words[2:3] == [b'upstrokes'] else super().odd(line)
 
 
 class WordsFromZero(Text):
@@ -218,6 +295,17 @@ WRONG = [
     ('telling the lower of two lines first', LowerFirst, 'sample with scatter at the last point'),
     ('telling of the down stroke first', DownFirst, 'sample with both strokes apart at the last point'),
     ('telling the two that lie furthest apart', FurthestApart, 'three cycles that lie apart'),
+    ('knowing no upstrokes', KnowsNoUpstrokes, 'upstrokes of the sample'),
+    ('wanting the down stroke of upstrokes', UpstrokesAsCycles, 'upstrokes of the sample'),
+    ('passing over a down line of upstrokes', DownLeftOut, 'upstrokes with a down line'),
+    ('understanding no down line of upstrokes', DownNotUnderstood, 'upstrokes with a down line'),
+    ('limits before strokes', LimitsBeforePlaces, 'upstrokes with a down line and its reading beyond'),
+    ('taking an opening of each kind', OpeningsApart, 'upstrokes with an opening of cycles'),
+    ('taking the last of two openings', LastOpening, 'upstrokes with an opening of cycles'),
+    ('counting two upstrokes as a cycle', TwoUpstrokesACycle, 'upstrokes of the sample'),
+    ('upstroke for upstrokes', AnyEnding, 'upstrokes with one letter less'),
+    ('telling the third word of upstrokes', OddThirdWord, 'upstrokes with too large a number of them'),
+    ('telling what is missing of upstrokes by both strokes', UpstrokesAsCycles, 'upstrokes without a reading of the second cycle'),
     ('counting words from 0', WordsFromZero, 'sample with a line that ends too early'),
     ('taking a word that is missing for one that is there', EveryWordIsThere, 'sample with a line that ends too early'),
 ]
@@ -226,7 +314,7 @@ WRONG = [
 def told(answer):
     """What was answered of a text, all that a run file has of it, and what more is told."""
     (number, line, run), more = answer
-    return number, line, run.m, run.n, run.inputs(), run.readings(), more
+    return number, line, run.m, run.n, run.strokes, run.inputs(), run.readings(), more
 
 
 def answered(given, method=Text):

@@ -34,6 +34,8 @@ fn put_readings(page: &mut Page, at: &mut usize, y: [Reading; 220]) {
 fn put_run(page: &mut Page, at: &mut usize, r: Run) {
     trial::put_bytes(page, at, b"run");
     put_pair(page, at, r.m as u64, r.n as u64);
+    trial::put_space(page, at);
+    trial::put_count(page, at, r.strokes as u64);
     let x = r.x;
     trial::put_bytes(page, at, b"\nx");
     put_inputs(page, at, x);

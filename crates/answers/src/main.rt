@@ -1,7 +1,7 @@
 // Prints what the crates of the bench answer, for the comparison with the second program.
 //
 // Standard input holds requests of numbers of 8 bytes, low byte first. Each is a kind, the length of a buffer, at most 2,048, and a file or a run.
-// A file is a length, at most 4,096, and its bytes. A run is m and n, 11 inputs and 220 readings, each more by 2 to the 63rd but for m and n.
+// A file is a length, at most 4,096, and its bytes. A run is m, n and its strokes, 11 inputs and 220 readings, each of these inputs and readings more by 2 to the 63rd.
 // 0 and a file: the reader's answer is printed, and where it is accepted what writing the run into the buffer gives.
 // 1 and a run: what writing it into the buffer gives.
 // 2 and a file: its sheet in the buffer.
@@ -21,9 +21,16 @@ const MOST: u32 = 1000000;
 fn next_run() -> Run {
     let m = trial::next_or_zero() as usize;
     let n = trial::next_or_zero() as usize;
+    let strokes = trial::next_or_zero() as usize;
     let x = trial::next_inputs();
     let y = trial::next_readings();
-    Run { m, n, x, y }
+    Run {
+        m,
+        n,
+        strokes,
+        x,
+        y,
+    }
 }
 
 fn answer_file(page: &mut Page, at: &mut usize, kind: u64, out: &mut [u8]) -> bool {

@@ -9,8 +9,8 @@ use lib.Signed.{_<ℤ_, ltZ, ≤ℤ-refl, <ℤ-≤ℤ-trans}
 use Rattle.whole.specs.Flags.{cond-ind}
 use Rattle.whole.specs.Sign.{weaken, le-trans}
 use Rattle.whole.specs.Size.{size-add, size-sub}
-use Rattle.run.specs.Run.{input}
-use Rattle.run.specs.Checked.{Checked}
+use Rattle.run.specs.Run.{input, last-stroke}
+use Rattle.run.specs.Checked.{Checked, first-there, last-there}
 use Rattle.run.specs.declared.Run.{Run}
 use Rattle.groups.specs.Sums.{up-sum, down-sum}
 use Rattle.groups.specs.Search.{limit}
@@ -27,7 +27,7 @@ abbrev lower : Run → ℕ → ℤ
 lower r i = up-sum r i -ℤ pos (limit r 0 i)
 
 abbrev upper : Run → ℕ → ℤ
-upper r i = down-sum r i +ℤ pos (limit r 1 i)
+upper r i = down-sum r i +ℤ pos (limit r (last-stroke r) i)
 
 -- ---- proper points
 module _ {r : Run} (c : Checked r) where
@@ -57,10 +57,10 @@ smaller-size a b n h i = cond-ind (ltZ a b) a b (λ z. natAbs z ≤ n) (λ t. h)
 
 module _ {r : Run} (c : Checked r) where
   up-size : (i : ℕ) → i < r .m → natAbs (up-sum r i) ≤ 10000000
-  up-size i h = total-size c 0 i (omega arith) h
+  up-size i h = total-size c 0 i (first-there c) h
 
   down-size : (i : ℕ) → i < r .m → natAbs (down-sum r i) ≤ 10000000
-  down-size i h = total-size c 1 i (omega arith) h
+  down-size i h = total-size c (last-stroke r) i (last-there c) h
 
   two-sized : (f g : ℕ → ℤ) → ((i : ℕ) → i < r .m → natAbs (f i) ≤ most-v) → ((i : ℕ) → i < r .m → natAbs (g i) ≤ most-v) → Admitted (two-valued r f g)
   two-sized f g hf hg = record {
@@ -81,7 +81,7 @@ module _ {r : Run} (c : Checked r) where
   admitted-through Limits =
       two-sized (lower r) (upper r)
       (λ i h. omega (arith, size-sub (up-sum r i) (pos (limit r 0 i)) 10000000 179690 (up-size i h) (limit-most r 0 i)))
-      (λ i h. omega (arith, size-add (down-sum r i) (pos (limit r 1 i)) 10000000 179690 (down-size i h) (limit-most r 1 i)))
+      (λ i h. omega (arith, size-add (down-sum r i) (pos (limit r (last-stroke r) i)) 10000000 179690 (down-size i h) (limit-most r (last-stroke r) i)))
 
 -- ---- points that are the same
 pub admitted : {P R : Points} → Admitted R → SamePoints P R → Admitted P

@@ -4,7 +4,7 @@ use Prim.Native.Nat.{ℕ, _<_}
 use Rattle.run.specs.declared.Run.{Run}
 use Rattle.groups.specs.Search.{limit}
 use Rattle.band.specs.Line.{Points}
-use Rattle.bands.specs.Through.{means, strokes, limit-points, swing, scatter}
+use Rattle.bands.specs.Through.{means, stroke-points, limit-points, swing, scatter}
 use Rattle.bands.specs.declared.Width.{Width}
 use Rattle.bands.specs.declared.Width.the-variants as widths
 
@@ -17,7 +17,7 @@ pub data Through : Type 0 where
 -- the points of a run that lines go through
 abbrev pub through : Through → Run → Points
 through Means r = means r
-through Strokes r = strokes r
+through Strokes r = stroke-points r
 through Limits r = limit-points r (limit r)
 
 -- two sets of points have the same inputs and values
@@ -31,4 +31,4 @@ pub record SamePoints (P R : Points) : Type 0 where
 -- a width at a point that is no line's
 abbrev pub width-at : Width → Run → ℕ → ℕ
 width-at widths.Swing r = swing r
-width-at widths.Scatter r = scatter (limit r)
+width-at widths.Scatter r = scatter r (limit r)

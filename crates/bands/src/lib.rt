@@ -21,7 +21,7 @@ pub enum Width {
     Scatter,
 }
 
-// T at each point: the means of both strokes.
+// T at each point: U and D, the sum of the run's last stroke.
 pub fn means_of(m: usize, up: &[i64; 11], down: &[i64; 11], means: &mut [i64; 11])
     requires { ⌜ Addable m (now up) × Addable m (now down) × (length (now means) ≡ 11) ⌝ }
     ensures { λ _. ⌜ Filled (mean-in (now (up .entry)) (now (down .entry))) m (now (means .exit)) ⌝ }
@@ -97,7 +97,7 @@ fn width_of(w: Width, a: Sum, b: Sum) -> Sum
     }
 }
 
-// The largest width over the points: of D from U, or of the limits of both strokes.
+// The largest width over the points: of D from U, or of the limits of the up stroke and of the last one.
 pub fn widest(w: Width, m: usize, up: &[i64; 11], down: &[i64; 11]) -> Sum
     requires { ⌜ Wide w m (now up) (now down) ⌝ }
     ensures sign { λ s. ⌜ pos 0 ≤ℤ s .count ⌝ }

@@ -1,4 +1,4 @@
--- The answer that is due for an index of a run (the paper, "What can be answered" and "The formulas in whole numbers"; request C-11). Definitions only.
+-- The answer that is due for an index of a run (the paper, "What can be answered" and "The formulas in whole numbers"; requests C-11 and C-13). Definitions only.
 use mathlib.Core.Path.{_≡_}
 use mathlib.Core.Bool.{Bool, true, false}
 use mathlib.Core.Logic.{_⊎_}
@@ -16,7 +16,7 @@ use Rattle.run.specs.Checks.{checks}
 use Rattle.run.specs.declared.Run.{Run}
 use Rattle.groups.specs.Cut.{WithLimits}
 use Rattle.band.specs.Line.{Line, Points, Within, Largest, All, Parallel, Zero, Front, Least, Single, Several, Terminal}
-use Rattle.bands.specs.Through.{means, strokes, limit-points, LargestOf, swing, scatter}
+use Rattle.bands.specs.Through.{means, stroke-points, limit-points, LargestOf, swing, scatter}
 use Rattle.due.specs.declared.Answer.{Answer}
 use Rattle.due.specs.declared.Index.{Index}
 use Rattle.due.specs.declared.Index.the-variants as index
@@ -49,8 +49,8 @@ Fits index.Independent r L w z = Best All (means r) L w z
 Fits index.Zero r L w z = Best (Zero (means r)) (means r) L w z
 Fits index.Front r L w z = Best (Front (means r)) (means r) L w z
 Fits index.Hysteresis r L w z = Independent r L × LargestOf (r .m) (swing r) w × (z ≡ r .n)
-Fits index.Repeatability r L w z = Independent r L × WithLimits r (λ k. LargestOf (r .m) (scatter k) w) × (z ≡ r .n)
-Fits index.Lh r L w z = Best All (strokes r) L w z
+Fits index.Repeatability r L w z = Independent r L × WithLimits r (λ k. LargestOf (r .m) (scatter r k) w) × (z ≡ r .n)
+Fits index.Lh r L w z = Best All (stroke-points r) L w z
 Fits index.Lhr r L w z = WithLimits r (λ k. Best All (limit-points r k) L w z)
 
 -- several lines of the family F reach its least width w/z
@@ -67,7 +67,7 @@ SeveralFit index.Zero r w z = Many (Zero (means r)) (means r) w z
 SeveralFit index.Front r w z = ⊥
 SeveralFit index.Hysteresis r w z = ⊥
 SeveralFit index.Repeatability r w z = ⊥
-SeveralFit index.Lh r w z = Many All (strokes r) w z
+SeveralFit index.Lh r w z = Many All (stroke-points r) w z
 SeveralFit index.Lhr r w z = WithLimits r (λ k. Many All (limit-points r k) w z)
 
 -- ---- when an index is refused
@@ -88,6 +88,21 @@ pub record BelowZero (which : Index) (r : Run) : Type 0 where
   pub at : ℕ
   pub within : at < r .m
   pub negative : input r at <ℤ pos 0
+
+-- 16 (request C-13): hysteresis, repeatability, LH or LHR is asked for, and the run has an up stroke only
+abbrev pub needs-down : Index → Bool
+needs-down index.Terminal = false
+needs-down index.Shifted = false
+needs-down index.Independent = false
+needs-down index.Zero = false
+needs-down index.Front = false
+needs-down index.Hysteresis = true
+needs-down index.Repeatability = true
+needs-down index.Lh = true
+needs-down index.Lhr = true
+
+abbrev pub OneStroke : Index → Run → Type 0
+OneStroke which r = T (needs-down which) × (r .strokes ≡ 1)
 
 -- 13: repeatability or LHR is asked for, and the run has one cycle
 abbrev pub scatters : Index → Bool
@@ -124,9 +139,9 @@ pub record LevelLine (which : Index) (r : Run) : Type 0 where
 abbrev pub at-zero : (number : ℕ) → Type 0 → Condition
 at-zero k P = record { number = k; Told = λ p. (p ≡ 0) × P }
 
--- 15, then 13, then 12, then 11
+-- 15, then 16, then 13, then 12, then 11
 abbrev pub own : Index → Run → List Condition
-own which r = at-zero 15 (BelowZero which r) ∷ at-zero 13 (OneCycle which r) ∷ at-zero 12 (SeveralReach which r) ∷ at-zero 11 (LevelLine which r) ∷ []
+own which r = at-zero 15 (BelowZero which r) ∷ at-zero 16 (OneStroke which r) ∷ at-zero 13 (OneCycle which r) ∷ at-zero 12 (SeveralReach which r) ∷ at-zero 11 (LevelLine which r) ∷ []
 
 -- behind the checks of the run
 abbrev pub refusals : Index → Run → List Condition

@@ -9,7 +9,7 @@ use Rattle.exact.specs.Rounding.{Nearest, Told}
 use Rattle.run.specs.Checks.{verdict}
 use Rattle.run.specs.declared.Run.{Run}
 use Rattle.band.specs.Line.{Line}
-use Rattle.due.specs.Due.{Fits, SeveralFit, refused, only-width, BelowZero, OneCycle}
+use Rattle.due.specs.Due.{Fits, SeveralFit, refused, only-width, BelowZero, OneStroke, OneCycle}
 use Rattle.due.specs.declared.Answer.{Answer}
 use Rattle.due.specs.declared.Based.{Based}
 use Rattle.due.specs.declared.Ground.{Ground}
@@ -91,15 +91,16 @@ pub record Rests (which : Index) (r : Run) (b : Based) : Type 0 where
   pub fits : Fits which r (line b (tellable .some)) w z
   pub is : w * (b .unit * b .q) ≡ natAbs (b .num) * z
 
--- neither the run nor 15 nor 13 refuses it
+-- neither the run nor 15, 16 or 13 refuses it
 pub record Answered (which : Index) (r : Run) : Type 0 where
   pub fine : verdict r .number ≡ 0
   pub from-zero : BelowZero which r → ⊥
+  pub strokes : OneStroke which r → ⊥
   pub cycles : OneCycle which r → ⊥
 
--- 15, then 13
+-- 15, then 16, then 13
 abbrev pub Refuses : Index → Run → ℕ → Type 0
-Refuses which r k = ((k ≡ 15) × BelowZero which r) ⊎ ((k ≡ 13) × (BelowZero which r → ⊥) × OneCycle which r)
+Refuses which r k = ((k ≡ 15) × BelowZero which r) ⊎ (((k ≡ 16) × (BelowZero which r → ⊥) × OneStroke which r) ⊎ ((k ≡ 13) × (BelowZero which r → ⊥) × (OneStroke which r → ⊥) × OneCycle which r))
 
 abbrev pub GroundDue : Index → Run → Ground → Type 0
 GroundDue which r (ground.Line b) = Answered which r × Rests which r b

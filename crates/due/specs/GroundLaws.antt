@@ -1,4 +1,4 @@
--- What is told of what an index stands on is the answer that is due; and which index neither 15 nor 13 refuses.
+-- What is told of what an index stands on is the answer that is due; and which index neither 15, 16 nor 13 refuses.
 use mathlib.Core.Path.{_≡_, refl, sym, ap, _∙_, subst}
 use mathlib.Core.Bool.{false}
 use mathlib.Core.Logic.{⊎-elim}
@@ -14,8 +14,8 @@ use Rattle.exact.specs.Exists.{some-made}
 use Rattle.run.specs.Checks.{verdict}
 use Rattle.run.specs.Checked.{checked}
 use Rattle.run.specs.declared.Run.{Run}
-use Rattle.due.specs.Due.{refused, only-width, span, Stands, from-zero, scatters, Due}
-use Rattle.due.specs.Cases.{Counted, Given, several, one-line, below-zero, one-cycle, given, case-due}
+use Rattle.due.specs.Due.{refused, only-width, span, Stands, from-zero, needs-down, scatters, Due}
+use Rattle.due.specs.Cases.{Counted, Given, several, one-line, below-zero, one-stroke, one-cycle, given, case-due}
 use Rattle.due.specs.Fractions.{none-right, made-alike}
 use Rattle.due.specs.Ground.{AnswerParts, shown, ruled, Ready, ShownBy, LineBy, AnswerBy, line, Rests, Answered, GroundDue}
 use Rattle.due.specs.declared.Answer.{Answer}
@@ -72,9 +72,9 @@ module _ {which : Index} {r : Run} {b : Based} (h : Rests which r b) {a : Answer
   pub rests-given : Given which r a
   rests-given = one-line (line b (h .tellable .some)) (h .w) (h .z) (h .some) (h .fits) counted stands
 
--- ---- an index that neither 15 nor 13 refuses
-pub plainly : (which : Index) {r : Run} → from-zero which ≡ false → scatters which ≡ false → verdict r .number ≡ 0 → Answered which r
-plainly which e f v = record { fine = v; from-zero = λ h. absurd (subst T e (h .asked)); cycles = λ h. absurd (subst T f (h .0)) }
+-- ---- an index that neither 15, 16 nor 13 refuses
+pub plainly : (which : Index) {r : Run} → from-zero which ≡ false → needs-down which ≡ false → scatters which ≡ false → verdict r .number ≡ 0 → Answered which r
+plainly which e u f v = record { fine = v; from-zero = λ h. absurd (subst T e (h .asked)); strokes = λ h. absurd (subst T u (h .0)); cycles = λ h. absurd (subst T f (h .0)) }
 
 -- where limits are asked for, the run has two cycles or more
 pub cycles-two : (which : Index) {r : Run} → T (scatters which) → Answered which r → 2 ≤ r .n
@@ -87,7 +87,7 @@ ground-ready which r (ground.Several h) d = tt
 ground-ready which r (ground.Refused k) d = tt
 
 pub answered-given : {which : Index} {r : Run} {a : Answer} → Answered which r → Given which r a → Due which r a
-answered-given o g = case-due (given (o .fine) (o .from-zero) (o .cycles) g)
+answered-given o g = case-due (given (o .fine) (o .from-zero) (o .strokes) (o .cycles) g)
 
 pub ground-answer : (which : Index) (r : Run) (g : Ground) {a : Answer} → GroundDue which r g → AnswerBy g (span r) a → Due which r a
 ground-answer which r (ground.Line b) d p = answered-given (d .0) (rests-given (d .1) p)
@@ -97,7 +97,9 @@ ground-answer which r (ground.Several h) {a} d p =
 ground-answer which r (ground.Refused k) {a} d p =
     ⊎-elim
     (λ e. case-due (below-zero (d .0) (e .1) (p ∙ ap (λ (n : ℕ). refused n 0) (e .0))))
-    (λ e. case-due (one-cycle (d .0) (e .1) (e .2) (p ∙ ap (λ (n : ℕ). refused n 0) (e .0))))
+    (⊎-elim
+    (λ e. case-due (one-stroke (d .0) (e .1) (e .2) (p ∙ ap (λ (n : ℕ). refused n 0) (e .0))))
+    (λ e. case-due (one-cycle (d .0) (e .1) (e .2) (e .3) (p ∙ ap (λ (n : ℕ). refused n 0) (e .0)))))
     (d .1)
 
 -- and its index may be told in thousandths of one percent

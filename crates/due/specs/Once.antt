@@ -14,7 +14,7 @@ use Rattle.band.specs.Same.{same-sym}
 use Rattle.fit.specs.Once.{made-once}
 use Rattle.due.specs.Due.{only-width, span, Stands, Due}
 use Rattle.due.specs.OneFit.{OneFit, fits-once, zero-slope, not-both, several-once}
-use Rattle.due.specs.Cases.{Counted, Given, several, one-line, Case, no-run, below-zero, one-cycle, given, due-case}
+use Rattle.due.specs.Cases.{Counted, Given, several, one-line, Case, no-run, below-zero, one-stroke, one-cycle, given, due-case}
 use Rattle.due.specs.Fractions.{none-too, made-same}
 use Rattle.due.specs.declared.Answer.{Answer}
 use Rattle.due.specs.declared.Index.{Index}
@@ -62,20 +62,29 @@ given-once which c (one-line L w z some f C A) (one-line M w′ z′ some′ h D
 one-case : (which : Index) (r : Run) {a b : Answer} → Case which r a → Case which r b → a ≡ b
 one-case which r (no-run h e) (no-run i f) = e ∙ sym f
 one-case which r (no-run h e) (below-zero v b f) = absurd (h v)
-one-case which r (no-run h e) (one-cycle v n o f) = absurd (h v)
-one-case which r (no-run h e) (given v n o g) = absurd (h v)
+one-case which r (no-run h e) (one-stroke v n s f) = absurd (h v)
+one-case which r (no-run h e) (one-cycle v n s o f) = absurd (h v)
+one-case which r (no-run h e) (given v n s o g) = absurd (h v)
 one-case which r (below-zero v b e) (no-run h f) = absurd (h v)
 one-case which r (below-zero v b e) (below-zero u c f) = e ∙ sym f
-one-case which r (below-zero v b e) (one-cycle u n o f) = absurd (n b)
-one-case which r (below-zero v b e) (given u n o g) = absurd (n b)
-one-case which r (one-cycle v n o e) (no-run h f) = absurd (h v)
-one-case which r (one-cycle v n o e) (below-zero u b f) = absurd (n b)
-one-case which r (one-cycle v n o e) (one-cycle u k p f) = e ∙ sym f
-one-case which r (one-cycle v n o e) (given u k p g) = absurd (p o)
-one-case which r (given v n o g) (no-run h f) = absurd (h v)
-one-case which r (given v n o g) (below-zero u b f) = absurd (n b)
-one-case which r (given v n o g) (one-cycle u k p f) = absurd (o p)
-one-case which r (given v n o g) (given u k p h) = given-once which (checked r v) g h
+one-case which r (below-zero v b e) (one-stroke u n s f) = absurd (n b)
+one-case which r (below-zero v b e) (one-cycle u n s o f) = absurd (n b)
+one-case which r (below-zero v b e) (given u n s o g) = absurd (n b)
+one-case which r (one-stroke v n s e) (no-run h f) = absurd (h v)
+one-case which r (one-stroke v n s e) (below-zero u b f) = absurd (n b)
+one-case which r (one-stroke v n s e) (one-stroke u k t f) = e ∙ sym f
+one-case which r (one-stroke v n s e) (one-cycle u k t p f) = absurd (t s)
+one-case which r (one-stroke v n s e) (given u k t p g) = absurd (t s)
+one-case which r (one-cycle v n s o e) (no-run h f) = absurd (h v)
+one-case which r (one-cycle v n s o e) (below-zero u b f) = absurd (n b)
+one-case which r (one-cycle v n s o e) (one-stroke u k t f) = absurd (s t)
+one-case which r (one-cycle v n s o e) (one-cycle u k t p f) = e ∙ sym f
+one-case which r (one-cycle v n s o e) (given u k t p g) = absurd (p o)
+one-case which r (given v n s o g) (no-run h f) = absurd (h v)
+one-case which r (given v n s o g) (below-zero u b f) = absurd (n b)
+one-case which r (given v n s o g) (one-stroke u k t f) = absurd (s t)
+one-case which r (given v n s o g) (one-cycle u k t p f) = absurd (o p)
+one-case which r (given v n s o g) (given u k t p h) = given-once which (checked r v) g h
 
 pub one-answer : (which : Index) (r : Run) {a b : Answer} → Due which r a → Due which r b → a ≡ b
 one-answer which r d e = one-case which r (due-case d) (due-case e)

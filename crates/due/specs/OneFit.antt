@@ -44,8 +44,8 @@ other-once : {r : Run} {L M : Line} {w z w′ z′ : ℕ} → Independent r L �
 other-once a b e p q = let f = p ∙ sym q in record { line = best-once (a .best) (b .best) .line; width = cc (e, f) }
 
 -- k of a group is one number, so the largest is
-scatter-once : {r : Run} {w w′ : ℕ} → WithLimits r (λ k. LargestOf (r .m) (scatter k) w) → WithLimits r (λ k. LargestOf (r .m) (scatter k) w′) → w ≡ w′
-scatter-once {r} a b = largest-once (largest-agree (same-scatter (limits-agree r (a .limits) (b .limits))) (a .holds)) (b .holds)
+scatter-once : {r : Run} {w w′ : ℕ} → WithLimits r (λ k. LargestOf (r .m) (scatter r k) w) → WithLimits r (λ k. LargestOf (r .m) (scatter r k) w′) → w ≡ w′
+scatter-once {r} a b = largest-once (largest-agree (same-scatter r (limits-agree r (a .limits) (b .limits))) (a .holds)) (b .holds)
 
 pub fits-once : (which : Index) {r : Run} → Checked r → {L M : Line} {w z w′ z′ : ℕ} → Fits which r L w z → Fits which r M w′ z′ → OneFit L M w z w′ z′
 fits-once index.Terminal c {L} {M} a b = let e = terminal-same (proper-means c) L M (a .0) (b .0) in record { line = e; width = largest-same (same-largest e (a .1)) (b .1) }

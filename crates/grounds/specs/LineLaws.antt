@@ -18,7 +18,7 @@ use Rattle.fit.specs.Plot.{CourseDue, PlotDue}
 use Rattle.fit.specs.declared.Course.{Course}
 use Rattle.fit.specs.declared.Plotted.{Plotted}
 use Rattle.pin.specs.Answer.{ZeroDue, FrontDue}
-use Rattle.bands.specs.Through.{means, strokes, limit-points}
+use Rattle.bands.specs.Through.{means, stroke-points, limit-points}
 use Rattle.bands.specs.Parts.{SamePoints}
 use Rattle.bands.specs.Transfer.{largest-points, terminal-points}
 use Rattle.due.specs.Due.{BelowZero}
@@ -35,12 +35,12 @@ module _ {P : Points} (r : Run) {c : Course} (fine : verdict r .number ≡ 0) (e
   pub terminal-stands : CourseDue (TheTerminal P) c → GroundDue index.Terminal r (ground.Line (owned c))
   terminal-stands d =
       let t = d .due (whole c) (whole-tells c) in
-      (plainly index.Terminal refl refl fine, own-rests (t .told) (terminal-points e (omega (arith, checked r fine .m-least)) (t .ends), largest-points e (t .largest)))
+      (plainly index.Terminal refl refl refl fine, own-rests (t .told) (terminal-points e (omega (arith, checked r fine .m-least)) (t .ends), largest-points e (t .largest)))
 
   pub shifted-stands : CourseDue (TheShifted P) c → GroundDue index.Shifted r (ground.Line (owned c))
   shifted-stands d =
       let t = d .due (whole c) (whole-tells c) in (
-        plainly index.Shifted refl refl fine,
+        plainly index.Shifted refl refl refl fine,
         own-rests (t .line .told) (record {
           base = t .base;
           terminal = terminal-points e (omega (arith, checked r fine .m-least)) (t .terminal);
@@ -51,12 +51,12 @@ module _ {P : Points} (r : Run) {c : Course} (fine : verdict r .number ≡ 0) (e
 -- ---- the best lines
 -- T has one value at each input, so that its line is single
 pub independent-stands : (r : Run) → verdict r .number ≡ 0 → (p : Plotted) → PlotDue (BestDue (means r)) p → GroundDue index.Independent r (stood p)
-independent-stands r fine = plot-stands (plainly index.Independent refl refl fine)
+independent-stands r fine = plot-stands (plainly index.Independent refl refl refl fine)
     (λ c d. own-rests (d .1 .told) (best-line (d .1)))
     (λ h d. absurd (level-single (means r) (λ i g. refl) (whole-width h) d))
 
-pub strokes-stand : (r : Run) → verdict r .number ≡ 0 → (p : Plotted) → PlotDue (BestDue (strokes r)) p → GroundDue index.Lh r (stood p)
-strokes-stand r fine = let o = plainly index.Lh refl refl fine in plot-stands o
+pub strokes-stand : (r : Run) → Answered index.Lh r → (p : Plotted) → PlotDue (BestDue (stroke-points r)) p → GroundDue index.Lh r (stood p)
+strokes-stand r o = plot-stands o
     (λ c d. own-rests (d .1 .told) (best-line (d .1)))
     (λ h d. (o, d .1 .some, d .1 .sign, many-lines (d .1)))
 
@@ -73,7 +73,7 @@ fifteen r fine l = (fine, inl (refl, below-first (checked r fine) tt l))
 module _ {P : Points} (r : Run) (fine : verdict r .number ≡ 0) (e : SamePoints P (means r)) where
   pub zero-stands : (BelowZero index.Zero r → ⊥) → (p : Plotted) → PlotDue (ZeroDue P) p → GroundDue index.Zero r (stood p)
   zero-stands none =
-      let o : Answered index.Zero r = record { fine = fine; from-zero = none; cycles = λ h. absurd (h .0) } in
+      let o : Answered index.Zero r = record { fine = fine; from-zero = none; strokes = λ h. absurd (h .0); cycles = λ h. absurd (h .0) } in
       plot-stands o
       (λ c d. own-rests (d .3 .told) (best-zero e (best-line (d .3))))
       (λ h d. (o, d .3 .some, d .3 .sign, many-zero e (many-lines (d .3))))
@@ -81,6 +81,6 @@ module _ {P : Points} (r : Run) (fine : verdict r .number ≡ 0) (e : SamePoints
   pub front-stands : (p : Plotted) → PlotDue (FrontDue P) p → GroundDue index.Front r (stood p)
   front-stands =
       let m = checked r fine .m-least in
-      plot-stands (plainly index.Front refl refl fine)
+      plot-stands (plainly index.Front refl refl refl fine)
       (λ c d. own-rests (d .2 .told) (best-front e (omega (arith, m)) (best-line (d .2))))
       (λ h d. absurd d)

@@ -1,19 +1,22 @@
--- A width that is no line's, with the independent line: what hysteresis and repeatability stand on; and when 13 is due.
+-- A width that is no line's, with the independent line: what hysteresis and repeatability stand on; and when 16 and 13 are due.
 use mathlib.Core.Path.{_≡_, refl, sym, ap, _∙_, subst}
-use mathlib.Core.Bool.{false}
-use mathlib.Core.List.{List}
-use mathlib.Core.Logic.{inr}
+use mathlib.Core.Bool.{Bool, true, false}
+use mathlib.Core.Logic.{inl, inr}
 use Prim.Native.Nat.{ℕ, _*_, _<_, _≤_}
 use native.Mathlib.Nat.{mul-le-mul-right}
 use native.Mathlib.Omega.{arith}
-use lib.Dec.{T}
+use borrow.Author.Tests.{eq-eqb}
+use lib.Dec.{T, eqb, eqb→eq}
 use lib.IntN.{ℤ, pos, natAbs}
 use lib.Signed.{_≤ℤ_}
+use mir.Facts.{T-not}
+use Rattle.whole.specs.Flags.{yes-T, no-T}
 use Rattle.whole.specs.Sign.{nonneg-mul, nonneg-nat}
 use Rattle.whole.specs.Size.{size-sub, size-product}
 use Rattle.whole.specs.Greater.{greater-size}
+use Rattle.run.specs.Run.{last-stroke}
 use Rattle.run.specs.Checks.{verdict}
-use Rattle.run.specs.Checked.{Checked, checked}
+use Rattle.run.specs.Checked.{Checked, checked, first-there, last-there}
 use Rattle.run.specs.declared.Run.{Run}
 use Rattle.groups.specs.Sums.{up-sum, down-sum}
 use Rattle.groups.specs.Search.{limit}
@@ -30,35 +33,47 @@ use Rattle.bands.specs.Through.{means, LargestOf}
 use Rattle.bands.specs.Parts.{width-at}
 use Rattle.bands.specs.declared.Width.{Width}
 use Rattle.bands.specs.declared.Width.the-variants as widths
-use Rattle.due.specs.Due.{Independent, Fits, from-zero, scatters}
+use Rattle.due.specs.Due.{Independent, Fits, BelowZero, from-zero, needs-down, scatters}
 use Rattle.due.specs.DueLaws.{best-line}
 use Rattle.due.specs.Ground.{Answered, GroundDue}
-use Rattle.due.specs.GroundLaws.{plainly, cycles-two}
+use Rattle.due.specs.GroundLaws.{cycles-two}
 use Rattle.due.specs.declared.Ground.{Ground}
 use Rattle.due.specs.declared.Ground.the-variants as ground
 use Rattle.due.specs.declared.Index.{Index}
 use Rattle.due.specs.declared.Index.the-variants as index
-use Rattle.grounds.specs.Basis.{Sides}
 use Rattle.grounds.specs.Found.{wide-index, Narrow, Widened}
 use Rattle.grounds.specs.FoundLaws.{whole, whole-tells, whole-width, whole-width-tells}
 
--- ---- 13
+-- ---- one of a kind, or not
+pub alone : {n : ℕ} {t : Bool} → t ≡ eqb n 1 → t ≡ true → n ≡ 1
+alone {n} e h = eqb→eq n 1 (yes-T (sym e ∙ h))
+
+pub not-alone : {n : ℕ} {t : Bool} → t ≡ eqb n 1 → t ≡ false → n ≡ 1 → ⊥
+not-alone {n} e h o = T-not (eqb n 1) (yes-T (eq-eqb n 1 o)) (no-T (sym e ∙ h))
+
+-- ---- 16, then 13
 module _ (which : Index) (r : Run) (e : from-zero which ≡ false) (fine : verdict r .number ≡ 0) where
-  pub answered-cycles : 2 ≤ r .n → Answered which r
-  answered-cycles h = record { fine = fine; from-zero = λ b. absurd (subst T e (b .asked)); cycles = λ o. absurd (omega (arith, h, o .1)) }
+  not-below : BelowZero which r → ⊥
+  not-below b = absurd (subst T e (b .asked))
 
-  pub thirteen : T (scatters which) → r .n ≡ 1 → GroundDue which r (ground.Refused 13)
-  thirteen t o = (fine, inr (refl, (λ b. absurd (subst T e (b .asked))), (t, o)))
+  pub sixteen : T (needs-down which) → r .strokes ≡ 1 → GroundDue which r (ground.Refused 16)
+  sixteen t o = (fine, inr (inl (refl, not-below, (t, o))))
 
-pub wide-answered : (k : Width) (r : Run) (u d : List ℤ) → verdict r .number ≡ 0 → Sides k r u d → Answered (wide-index k) r
-wide-answered widths.Swing r u d fine s = plainly index.Hysteresis refl refl fine
-wide-answered widths.Scatter r u d fine s = answered-cycles index.Repeatability r refl fine (s .0)
+  module _ (back : r .strokes ≡ 1 → ⊥) where
+    pub answered-strokes : scatters which ≡ false → Answered which r
+    answered-strokes f = record { fine = fine; from-zero = not-below; strokes = λ h. back (h .1); cycles = λ h. absurd (subst T f (h .0)) }
+
+    pub answered-cycles : (r .n ≡ 1 → ⊥) → Answered which r
+    answered-cycles n = record { fine = fine; from-zero = not-below; strokes = λ h. back (h .1); cycles = λ h. n (h .1) }
+
+    pub thirteen : T (scatters which) → r .n ≡ 1 → GroundDue which r (ground.Refused 13)
+    thirteen t o = (fine, inr (inr (refl, not-below, (λ h. back (h .1)), (t, o))))
 
 -- ---- the widths
 -- no width is above twice the largest sum
 width-most : (k : Width) {r : Run} → Checked r → (i : ℕ) → i < r .m → width-at k r i ≤ 20000000
-width-most widths.Swing {r} c i h = size-sub (down-sum r i) (up-sum r i) 10000000 10000000 (total-size c 1 i (omega arith) h) (total-size c 0 i (omega arith) h)
-width-most widths.Scatter {r} c i h = greater-size (pos (limit r 0 i)) (pos (limit r 1 i)) 20000000 (omega (arith, limit-most r 0 i)) (omega (arith, limit-most r 1 i))
+width-most widths.Swing {r} c i h = size-sub (down-sum r i) (up-sum r i) 10000000 10000000 (total-size c (last-stroke r) i (last-there c) h) (total-size c 0 i (first-there c) h)
+width-most widths.Scatter {r} c i h = greater-size (pos (limit r 0 i)) (pos (limit r (last-stroke r) i)) 20000000 (omega (arith, limit-most r 0 i)) (omega (arith, limit-most r (last-stroke r) i))
 
 pub widest-most : (k : Width) {r : Run} {w : ℕ} → Checked r → LargestOf (r .m) (width-at k r) w → w ≤ 20000000
 widest-most k {r} c l = subst (λ (w : ℕ). w ≤ 20000000) (l .reached) (width-most k c (l .place) (l .within))

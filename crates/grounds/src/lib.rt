@@ -1,6 +1,6 @@
 // What each index of a run stands on: its line and its width, of the run's sums, means and limits.
 ghost use mathlib.Core.Path.{_≡_};
-ghost use Prim.Native.Nat.{_*_, _≤_};
+ghost use Prim.Native.Nat.{_*_, _-_, _≤_};
 ghost use lib.Dec.{eqb};
 ghost use lib.IntN.{pos, natAbs};
 ghost use lib.ListN.{getD, length};
@@ -13,7 +13,7 @@ ghost use Rattle.fit.specs.Answer.{BestDue};
 ghost use Rattle.fit.specs.Plot.{PlotDue};
 ghost use Rattle.bands.specs.Lent.{Addable};
 ghost use Rattle.bands.specs.Through as T;
-ghost use Rattle.due.specs.Ground.{GroundDue};
+ghost use Rattle.due.specs.Ground.{Answered, GroundDue};
 ghost use Rattle.due.specs.declared.Index.the-variants as index;
 ghost use Rattle.grounds.specs.Basis.{Summed, Meant, Sides, Spanned, span-in, pairs};
 ghost use Rattle.grounds.specs.Found.{owned, stood, Narrow, Widened, wide-index};
@@ -26,25 +26,31 @@ use due::Ground;
 use fit::Course;
 use fit::Plotted;
 use groups::sums_of;
+use limits::Sizes;
 use units::Input;
 use units::Sum;
 use units::input_at;
 
-// U, D and T at each point.
+// What refuses an index that needs the way back, of a run that has an up stroke only. It comes before 13.
+const UP_ONLY: u8 = 16;
+
+// U, D and T at each point: D is the sum of the stroke that comes last, which is the up stroke where there is no other.
 pub fn summed(
-    m: usize,
-    n: usize,
+    z: Sizes,
     x: &[i64; 11],
     y: &[i64; 220],
     up: &mut [i64; 11],
     down: &mut [i64; 11],
     means: &mut [i64; 11],
 )
-    requires { ⌜ (verdict (lent m n (now x) (now y)) .number ≡ 0) × (length (now up) ≡ 11) × (length (now down) ≡ 11) × (length (now means) ≡ 11) ⌝ }
-    ensures { λ _. ⌜ Summed (lent m n (now (x .entry)) (now (y .entry))) (now (up .exit)) (now (down .exit)) (now (means .exit)) ⌝ }
+    requires { ⌜ (verdict (lent z (now x) (now y)) .number ≡ 0) × (length (now up) ≡ 11) × (length (now down) ≡ 11) × (length (now means) ≡ 11) ⌝ }
+    ensures { λ _. ⌜ Summed (lent z (now (x .entry)) (now (y .entry))) (now (up .exit)) (now (down .exit)) (now (means .exit)) ⌝ }
 {
+    let m = z.m;
+    let n = z.n;
+    let last = z.strokes - 1;
     sums_of(m, n, y, 0, up);
-    sums_of(m, n, y, 1, down);
+    sums_of(m, n, y, last, down);
     means_of(m, up, down, means);
 }
 
@@ -87,37 +93,31 @@ fn on_plot(p: Plotted) -> Ground
     }
 }
 
-pub fn terminal(m: usize, n: usize, x: &[i64; 11], y: &[i64; 220], means: &[i64; 11]) -> Ground
-    requires { ⌜ Meant m n (now x) (now y) (now means) ⌝ }
-    ensures { λ g. ⌜ GroundDue index.Terminal (lent m n (now (x .entry)) (now (y .entry))) g ⌝ }
+pub fn terminal(z: Sizes, x: &[i64; 11], y: &[i64; 220], means: &[i64; 11]) -> Ground
+    requires { ⌜ Meant z (now x) (now y) (now means) ⌝ }
+    ensures { λ g. ⌜ GroundDue index.Terminal (lent z (now (x .entry)) (now (y .entry))) g ⌝ }
 {
-    Ground::Line(own(fit::terminal_of(m, mean_unit(n), x, means, means)))
+    Ground::Line(own(fit::terminal_of(z.m, mean_unit(z.n), x, means, means)))
 }
 
-pub fn shifted(m: usize, n: usize, x: &[i64; 11], y: &[i64; 220], means: &[i64; 11]) -> Ground
-    requires { ⌜ Meant m n (now x) (now y) (now means) ⌝ }
-    ensures { λ g. ⌜ GroundDue index.Shifted (lent m n (now (x .entry)) (now (y .entry))) g ⌝ }
+pub fn shifted(z: Sizes, x: &[i64; 11], y: &[i64; 220], means: &[i64; 11]) -> Ground
+    requires { ⌜ Meant z (now x) (now y) (now means) ⌝ }
+    ensures { λ g. ⌜ GroundDue index.Shifted (lent z (now (x .entry)) (now (y .entry))) g ⌝ }
 {
-    Ground::Line(own(fit::shifted_of(m, mean_unit(n), x, means, means)))
+    Ground::Line(own(fit::shifted_of(z.m, mean_unit(z.n), x, means, means)))
 }
 
 // The independent line, which three indices share.
-pub fn independent_line(
-    m: usize,
-    n: usize,
-    x: &[i64; 11],
-    y: &[i64; 220],
-    means: &[i64; 11],
-) -> Plotted
-    requires { ⌜ Meant m n (now x) (now y) (now means) ⌝ }
-    ensures { λ p. ⌜ PlotDue (BestDue (T.means (lent m n (now (x .entry)) (now (y .entry))))) p ⌝ }
+pub fn independent_line(z: Sizes, x: &[i64; 11], y: &[i64; 220], means: &[i64; 11]) -> Plotted
+    requires { ⌜ Meant z (now x) (now y) (now means) ⌝ }
+    ensures { λ p. ⌜ PlotDue (BestDue (T.means (lent z (now (x .entry)) (now (y .entry))))) p ⌝ }
 {
-    fit::best_of(m, mean_unit(n), x, means, means)
+    fit::best_of(z.m, mean_unit(z.n), x, means, means)
 }
 
-pub fn independent(m: usize, n: usize, x: &[i64; 11], y: &[i64; 220], line: Plotted) -> Ground
-    requires { ⌜ (verdict (lent m n (now x) (now y)) .number ≡ 0) × PlotDue (BestDue (T.means (lent m n (now x) (now y)))) line ⌝ }
-    ensures { λ g. ⌜ GroundDue index.Independent (lent m n (now (x .entry)) (now (y .entry))) g ⌝ }
+pub fn independent(z: Sizes, x: &[i64; 11], y: &[i64; 220], line: Plotted) -> Ground
+    requires { ⌜ (verdict (lent z (now x) (now y)) .number ≡ 0) × PlotDue (BestDue (T.means (lent z (now x) (now y)))) line ⌝ }
+    ensures { λ g. ⌜ GroundDue index.Independent (lent z (now (x .entry)) (now (y .entry))) g ⌝ }
 {
     on_plot(line)
 }
@@ -130,21 +130,21 @@ fn has_negative(x: &[i64; 11]) -> bool
 }
 
 // Through the origin, where no input is negative.
-pub fn zero(m: usize, n: usize, x: &[i64; 11], y: &[i64; 220], means: &[i64; 11]) -> Ground
-    requires { ⌜ Meant m n (now x) (now y) (now means) ⌝ }
-    ensures { λ g. ⌜ GroundDue index.Zero (lent m n (now (x .entry)) (now (y .entry))) g ⌝ }
+pub fn zero(z: Sizes, x: &[i64; 11], y: &[i64; 220], means: &[i64; 11]) -> Ground
+    requires { ⌜ Meant z (now x) (now y) (now means) ⌝ }
+    ensures { λ g. ⌜ GroundDue index.Zero (lent z (now (x .entry)) (now (y .entry))) g ⌝ }
 {
     if has_negative(x) {
         return Ground::Refused(15);
     }
-    on_plot(pin::zero_of(m, mean_unit(n), x, means, means))
+    on_plot(pin::zero_of(z.m, mean_unit(z.n), x, means, means))
 }
 
-pub fn front(m: usize, n: usize, x: &[i64; 11], y: &[i64; 220], means: &[i64; 11]) -> Ground
-    requires { ⌜ Meant m n (now x) (now y) (now means) ⌝ }
-    ensures { λ g. ⌜ GroundDue index.Front (lent m n (now (x .entry)) (now (y .entry))) g ⌝ }
+pub fn front(z: Sizes, x: &[i64; 11], y: &[i64; 220], means: &[i64; 11]) -> Ground
+    requires { ⌜ Meant z (now x) (now y) (now means) ⌝ }
+    ensures { λ g. ⌜ GroundDue index.Front (lent z (now (x .entry)) (now (y .entry))) g ⌝ }
 {
-    on_plot(pin::front_of(m, mean_unit(n), x, means, means))
+    on_plot(pin::front_of(z.m, mean_unit(z.n), x, means, means))
 }
 
 // ---- A width that is no line's, with the independent line.
@@ -164,62 +164,65 @@ fn on_width(p: Plotted, w: Sum, n: usize) -> Ground
     }
 }
 
-// Of both strokes' sums or limits.
+// Of the sums or the limits of the up stroke and of the last one.
 fn wide(
     w: Width,
-    m: usize,
-    n: usize,
+    z: Sizes,
     x: &[i64; 11],
     y: &[i64; 220],
     line: Plotted,
     up: &[i64; 11],
     down: &[i64; 11],
 ) -> Ground
-    requires { ⌜ (verdict (lent m n (now x) (now y)) .number ≡ 0) × PlotDue (BestDue (T.means (lent m n (now x) (now y)))) line × Sides w (lent m n (now x) (now y)) (now up) (now down) ⌝ }
-    ensures { λ g. ⌜ GroundDue (wide-index w) (lent m n (now (x .entry)) (now (y .entry))) g ⌝ }
+    requires { ⌜ Answered (wide-index w) (lent z (now x) (now y)) × PlotDue (BestDue (T.means (lent z (now x) (now y)))) line × Sides w (lent z (now x) (now y)) (now up) (now down) ⌝ }
+    ensures { λ g. ⌜ GroundDue (wide-index w) (lent z (now (x .entry)) (now (y .entry))) g ⌝ }
 {
-    on_width(line, widest(w, m, up, down), n)
+    on_width(line, widest(w, z.m, up, down), z.n)
 }
 
-pub fn hysteresis(
-    m: usize,
-    n: usize,
-    x: &[i64; 11],
-    y: &[i64; 220],
-    line: Plotted,
-    up: &[i64; 11],
-    down: &[i64; 11],
-) -> Ground
-    requires { ⌜ (verdict (lent m n (now x) (now y)) .number ≡ 0) × PlotDue (BestDue (T.means (lent m n (now x) (now y)))) line × Sides Width.Swing (lent m n (now x) (now y)) (now up) (now down) ⌝ }
-    ensures { λ g. ⌜ GroundDue index.Hysteresis (lent m n (now (x .entry)) (now (y .entry))) g ⌝ }
-{
-    wide(Width::Swing, m, n, x, y, line, up, down)
-}
-
-// Scatter cannot be told of one cycle.
+// Scatter cannot be told of one cycle, and what needs the way down cannot be told of an up stroke alone.
 fn is_alone(n: usize) -> bool
     ensures { λ t. ⌜ t ≡ eqb n 1 ⌝ }
 {
     n == 1
 }
 
+pub fn hysteresis(
+    z: Sizes,
+    x: &[i64; 11],
+    y: &[i64; 220],
+    line: Plotted,
+    up: &[i64; 11],
+    down: &[i64; 11],
+) -> Ground
+    requires { ⌜ (verdict (lent z (now x) (now y)) .number ≡ 0) × PlotDue (BestDue (T.means (lent z (now x) (now y)))) line × Sides Width.Swing (lent z (now x) (now y)) (now up) (now down) ⌝ }
+    ensures { λ g. ⌜ GroundDue index.Hysteresis (lent z (now (x .entry)) (now (y .entry))) g ⌝ }
+{
+    if is_alone(z.strokes) {
+        return Ground::Refused(UP_ONLY);
+    }
+    wide(Width::Swing, z, x, y, line, up, down)
+}
+
 // The larger limit of a point's two strokes.
 pub fn repeatability(
-    m: usize,
-    n: usize,
+    z: Sizes,
     x: &[i64; 11],
     y: &[i64; 220],
     line: Plotted,
     up_limits: &[i64; 11],
     down_limits: &[i64; 11],
 ) -> Ground
-    requires { ⌜ (verdict (lent m n (now x) (now y)) .number ≡ 0) × PlotDue (BestDue (T.means (lent m n (now x) (now y)))) line × BothLimits (group n (now y)) m (now «up_limits») (now «down_limits») ⌝ }
-    ensures { λ g. ⌜ GroundDue index.Repeatability (lent m n (now (x .entry)) (now (y .entry))) g ⌝ }
+    requires { ⌜ (verdict (lent z (now x) (now y)) .number ≡ 0) × PlotDue (BestDue (T.means (lent z (now x) (now y)))) line × BothLimits (group (z .n) (now y)) (z .strokes - 1) (z .m) (now «up_limits») (now «down_limits») ⌝ }
+    ensures { λ g. ⌜ GroundDue index.Repeatability (lent z (now (x .entry)) (now (y .entry))) g ⌝ }
 {
-    if is_alone(n) {
+    if is_alone(z.strokes) {
+        return Ground::Refused(UP_ONLY);
+    }
+    if is_alone(z.n) {
         return Ground::Refused(13);
     }
-    wide(Width::Scatter, m, n, x, y, line, up_limits, down_limits)
+    wide(Width::Scatter, z, x, y, line, up_limits, down_limits)
 }
 
 // ---- The best line past two values at each point: U less its limit and D more its limit.
@@ -243,24 +246,19 @@ fn paired(
 }
 
 // For LH the limits are zero.
-pub fn lh(
-    m: usize,
-    n: usize,
-    x: &[i64; 11],
-    y: &[i64; 220],
-    up: &[i64; 11],
-    down: &[i64; 11],
-) -> Ground
-    requires { ⌜ (verdict (lent m n (now x) (now y)) .number ≡ 0) × Sides Width.Swing (lent m n (now x) (now y)) (now up) (now down) ⌝ }
-    ensures { λ g. ⌜ GroundDue index.Lh (lent m n (now (x .entry)) (now (y .entry))) g ⌝ }
+pub fn lh(z: Sizes, x: &[i64; 11], y: &[i64; 220], up: &[i64; 11], down: &[i64; 11]) -> Ground
+    requires { ⌜ (verdict (lent z (now x) (now y)) .number ≡ 0) × Sides Width.Swing (lent z (now x) (now y)) (now up) (now down) ⌝ }
+    ensures { λ g. ⌜ GroundDue index.Lh (lent z (now (x .entry)) (now (y .entry))) g ⌝ }
 {
+    if is_alone(z.strokes) {
+        return Ground::Refused(UP_ONLY);
+    }
     let none = [0; 11];
-    on_plot(paired(m, n, x, up, down, &none, &none))
+    on_plot(paired(z.m, z.n, x, up, down, &none, &none))
 }
 
 pub fn lhr(
-    m: usize,
-    n: usize,
+    z: Sizes,
     x: &[i64; 11],
     y: &[i64; 220],
     up: &[i64; 11],
@@ -268,11 +266,14 @@ pub fn lhr(
     up_limits: &[i64; 11],
     down_limits: &[i64; 11],
 ) -> Ground
-    requires { ⌜ (verdict (lent m n (now x) (now y)) .number ≡ 0) × Sides Width.Swing (lent m n (now x) (now y)) (now up) (now down) × BothLimits (group n (now y)) m (now «up_limits») (now «down_limits») ⌝ }
-    ensures { λ g. ⌜ GroundDue index.Lhr (lent m n (now (x .entry)) (now (y .entry))) g ⌝ }
+    requires { ⌜ (verdict (lent z (now x) (now y)) .number ≡ 0) × Sides Width.Swing (lent z (now x) (now y)) (now up) (now down) × BothLimits (group (z .n) (now y)) (z .strokes - 1) (z .m) (now «up_limits») (now «down_limits») ⌝ }
+    ensures { λ g. ⌜ GroundDue index.Lhr (lent z (now (x .entry)) (now (y .entry))) g ⌝ }
 {
-    if is_alone(n) {
+    if is_alone(z.strokes) {
+        return Ground::Refused(UP_ONLY);
+    }
+    if is_alone(z.n) {
         return Ground::Refused(13);
     }
-    on_plot(paired(m, n, x, up, down, up_limits, down_limits))
+    on_plot(paired(z.m, z.n, x, up, down, up_limits, down_limits))
 }

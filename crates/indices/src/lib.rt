@@ -1,5 +1,6 @@
 // The nine indices of a run.
 ghost use mathlib.Core.Path.{_≡_};
+ghost use Prim.Native.Nat.{_-_};
 ghost use Rattle.exact.specs.Rounding.{Told};
 ghost use Rattle.run.specs.Run.{lent, group};
 ghost use Rattle.run.specs.Checks.{verdict};
@@ -18,94 +19,92 @@ use due::Shown;
 use due::shown_of;
 use grounds::independent_line;
 use groups::both_limits;
+use limits::Sizes;
 use run::Run;
 
 // ---- One index.
-fn repeatability_of(m: usize, n: usize, x: &[i64; 11], y: &[i64; 220], means: &[i64; 11]) -> Ground
-    requires { ⌜ Meant m n (now x) (now y) (now means) ⌝ }
-    ensures { λ g. ⌜ GroundDue index.Repeatability (lent m n (now (x .entry)) (now (y .entry))) g ⌝ }
+fn repeatability_of(z: Sizes, x: &[i64; 11], y: &[i64; 220], means: &[i64; 11]) -> Ground
+    requires { ⌜ Meant z (now x) (now y) (now means) ⌝ }
+    ensures { λ g. ⌜ GroundDue index.Repeatability (lent z (now (x .entry)) (now (y .entry))) g ⌝ }
 {
+    let m = z.m;
+    let n = z.n;
+    let last = z.strokes - 1;
     let mut up_limits = [0; 11];
     let mut down_limits = [0; 11];
-    both_limits(m, n, y, &mut up_limits, &mut down_limits);
-    let line = independent_line(m, n, x, y, means);
-    grounds::repeatability(m, n, x, y, line, &up_limits, &down_limits)
+    both_limits(m, n, last, y, &mut up_limits, &mut down_limits);
+    let line = independent_line(z, x, y, means);
+    grounds::repeatability(z, x, y, line, &up_limits, &down_limits)
 }
 
-fn lhr_of(
-    m: usize,
-    n: usize,
-    x: &[i64; 11],
-    y: &[i64; 220],
-    up: &[i64; 11],
-    down: &[i64; 11],
-) -> Ground
-    requires { ⌜ (verdict (lent m n (now x) (now y)) .number ≡ 0) × Sides widths.Swing (lent m n (now x) (now y)) (now up) (now down) ⌝ }
-    ensures { λ g. ⌜ GroundDue index.Lhr (lent m n (now (x .entry)) (now (y .entry))) g ⌝ }
+fn lhr_of(z: Sizes, x: &[i64; 11], y: &[i64; 220], up: &[i64; 11], down: &[i64; 11]) -> Ground
+    requires { ⌜ (verdict (lent z (now x) (now y)) .number ≡ 0) × Sides widths.Swing (lent z (now x) (now y)) (now up) (now down) ⌝ }
+    ensures { λ g. ⌜ GroundDue index.Lhr (lent z (now (x .entry)) (now (y .entry))) g ⌝ }
 {
+    let m = z.m;
+    let n = z.n;
+    let last = z.strokes - 1;
     let mut up_limits = [0; 11];
     let mut down_limits = [0; 11];
-    both_limits(m, n, y, &mut up_limits, &mut down_limits);
-    grounds::lhr(m, n, x, y, up, down, &up_limits, &down_limits)
+    both_limits(m, n, last, y, &mut up_limits, &mut down_limits);
+    grounds::lhr(z, x, y, up, down, &up_limits, &down_limits)
 }
 
 // What an index stands on, of the sums and means of a run that no check refuses. Limits and lines are worked out only for an index that needs them.
 fn ground_in(
     which: Index,
-    m: usize,
-    n: usize,
+    z: Sizes,
     x: &[i64; 11],
     y: &[i64; 220],
     up: &[i64; 11],
     down: &[i64; 11],
     means: &[i64; 11],
 ) -> Ground
-    requires { ⌜ Meant m n (now x) (now y) (now means) × Sides widths.Swing (lent m n (now x) (now y)) (now up) (now down) ⌝ }
-    ensures { λ g. ⌜ GroundDue which (lent m n (now (x .entry)) (now (y .entry))) g ⌝ }
+    requires { ⌜ Meant z (now x) (now y) (now means) × Sides widths.Swing (lent z (now x) (now y)) (now up) (now down) ⌝ }
+    ensures { λ g. ⌜ GroundDue which (lent z (now (x .entry)) (now (y .entry))) g ⌝ }
 {
     match which {
-        Index::Terminal => grounds::terminal(m, n, x, y, means),
-        Index::Shifted => grounds::shifted(m, n, x, y, means),
-        Index::Independent => grounds::independent(m, n, x, y, independent_line(m, n, x, y, means)),
-        Index::Zero => grounds::zero(m, n, x, y, means),
-        Index::Front => grounds::front(m, n, x, y, means),
+        Index::Terminal => grounds::terminal(z, x, y, means),
+        Index::Shifted => grounds::shifted(z, x, y, means),
+        Index::Independent => grounds::independent(z, x, y, independent_line(z, x, y, means)),
+        Index::Zero => grounds::zero(z, x, y, means),
+        Index::Front => grounds::front(z, x, y, means),
         Index::Hysteresis => grounds::hysteresis(
-            m,
-            n,
+            z,
             x,
             y,
-            independent_line(m, n, x, y, means),
+            independent_line(z, x, y, means),
             up,
             down,
         ),
-        Index::Repeatability => repeatability_of(m, n, x, y, means),
-        Index::Lh => grounds::lh(m, n, x, y, up, down),
-        Index::Lhr => lhr_of(m, n, x, y, up, down),
+        Index::Repeatability => repeatability_of(z, x, y, means),
+        Index::Lh => grounds::lh(z, x, y, up, down),
+        Index::Lhr => lhr_of(z, x, y, up, down),
     }
 }
 
-fn ground_of(which: Index, m: usize, n: usize, x: &[i64; 11], y: &[i64; 220]) -> Ground
-    requires { ⌜ verdict (lent m n (now x) (now y)) .number ≡ 0 ⌝ }
-    ensures { λ g. ⌜ GroundDue which (lent m n (now (x .entry)) (now (y .entry))) g ⌝ }
+fn ground_of(which: Index, z: Sizes, x: &[i64; 11], y: &[i64; 220]) -> Ground
+    requires { ⌜ verdict (lent z (now x) (now y)) .number ≡ 0 ⌝ }
+    ensures { λ g. ⌜ GroundDue which (lent z (now (x .entry)) (now (y .entry))) g ⌝ }
 {
     let mut up = [0; 11];
     let mut down = [0; 11];
     let mut means = [0; 11];
-    grounds::summed(m, n, x, y, &mut up, &mut down, &mut means);
-    ground_in(which, m, n, x, y, &up, &down, &means)
+    grounds::summed(z, x, y, &mut up, &mut down, &mut means);
+    ground_in(which, z, x, y, &up, &down, &means)
 }
 
 // An index of the run that lent counts stand for.
-fn index_over(which: Index, m: usize, n: usize, x: &[i64; 11], y: &[i64; 220]) -> Answer
-    ensures due { λ a. ⌜ Due which (lent m n (now (x .entry)) (now (y .entry))) a ⌝ }
+fn index_over(which: Index, z: Sizes, x: &[i64; 11], y: &[i64; 220]) -> Answer
+    ensures due { λ a. ⌜ Due which (lent z (now (x .entry)) (now (y .entry))) a ⌝ }
     ensures told { λ a. ⌜ Told (a .index) ⌝ }
 {
-    let v = run::check_over(m, n, x, y);
+    let v = run::check_over(z, x, y);
     if v.number != 0 {
         return due::refuse(v.number, v.place);
     }
-    let g = ground_of(which, m, n, x, y);
-    due::answer_of(g, grounds::span_of(m, x))
+    let g = ground_of(which, z, x, y);
+    due::answer_of(g, grounds::span_of(z.m, x))
 }
 
 // An index of any run. Its counts are taken out once.
@@ -113,11 +112,15 @@ pub fn index_of(which: Index, r: Run) -> Answer
     ensures due { λ a. ⌜ Due which r a ⌝ }
     ensures told { λ a. ⌜ Told (a .index) ⌝ }
 {
+    let m = r.m;
+    let n = r.n;
+    let strokes = r.strokes;
     let inputs = r.x;
     let readings = r.y;
+    let z = Sizes { m, n, strokes };
     let x = run::inputs_of(inputs);
     let y = run::readings_of(readings);
-    index_over(which, r.m, r.n, &x, &y)
+    index_over(which, z, &x, &y)
 }
 
 // ---- Every index of a run, as a sheet shows it, and the line of LHR.
@@ -136,8 +139,7 @@ pub struct Nine {
 
 // Of the sums, means and limits of a run that no check refuses. The independent line is found once.
 fn nine_in(
-    m: usize,
-    n: usize,
+    z: Sizes,
     x: &[i64; 11],
     y: &[i64; 220],
     up: &[i64; 11],
@@ -146,40 +148,43 @@ fn nine_in(
     up_limits: &[i64; 11],
     down_limits: &[i64; 11],
 ) -> Nine
-    requires { ⌜ Meant m n (now x) (now y) (now means) × Sides widths.Swing (lent m n (now x) (now y)) (now up) (now down) × BothLimits (group n (now y)) m (now «up_limits») (now «down_limits») ⌝ }
-    ensures { λ q. ⌜ NineDue (lent m n (now (x .entry)) (now (y .entry))) q ⌝ }
+    requires { ⌜ Meant z (now x) (now y) (now means) × Sides widths.Swing (lent z (now x) (now y)) (now up) (now down) × BothLimits (group (z .n) (now y)) (z .strokes - 1) (z .m) (now «up_limits») (now «down_limits») ⌝ }
+    ensures { λ q. ⌜ NineDue (lent z (now (x .entry)) (now (y .entry))) q ⌝ }
 {
-    let span = grounds::span_of(m, x);
-    let line = independent_line(m, n, x, y, means);
-    let last = grounds::lhr(m, n, x, y, up, down, up_limits, down_limits);
+    let span = grounds::span_of(z.m, x);
+    let line = independent_line(z, x, y, means);
+    let last = grounds::lhr(z, x, y, up, down, up_limits, down_limits);
     Nine {
-        terminal: shown_of(grounds::terminal(m, n, x, y, means), span),
-        shifted: shown_of(grounds::shifted(m, n, x, y, means), span),
-        independent: shown_of(grounds::independent(m, n, x, y, line), span),
-        zero: shown_of(grounds::zero(m, n, x, y, means), span),
-        front: shown_of(grounds::front(m, n, x, y, means), span),
-        hysteresis: shown_of(grounds::hysteresis(m, n, x, y, line, up, down), span),
+        terminal: shown_of(grounds::terminal(z, x, y, means), span),
+        shifted: shown_of(grounds::shifted(z, x, y, means), span),
+        independent: shown_of(grounds::independent(z, x, y, line), span),
+        zero: shown_of(grounds::zero(z, x, y, means), span),
+        front: shown_of(grounds::front(z, x, y, means), span),
+        hysteresis: shown_of(grounds::hysteresis(z, x, y, line, up, down), span),
         repeatability: shown_of(
-            grounds::repeatability(m, n, x, y, line, up_limits, down_limits),
+            grounds::repeatability(z, x, y, line, up_limits, down_limits),
             span,
         ),
-        lh: shown_of(grounds::lh(m, n, x, y, up, down), span),
+        lh: shown_of(grounds::lh(z, x, y, up, down), span),
         lhr: shown_of(last, span),
         line: due::ruled_of(last),
     }
 }
 
 // Sums, means and limits are worked out once for all.
-pub fn nine_over(m: usize, n: usize, x: &[i64; 11], y: &[i64; 220]) -> Nine
-    requires { ⌜ verdict (lent m n (now x) (now y)) .number ≡ 0 ⌝ }
-    ensures { λ q. ⌜ NineDue (lent m n (now (x .entry)) (now (y .entry))) q ⌝ }
+pub fn nine_over(z: Sizes, x: &[i64; 11], y: &[i64; 220]) -> Nine
+    requires { ⌜ verdict (lent z (now x) (now y)) .number ≡ 0 ⌝ }
+    ensures { λ q. ⌜ NineDue (lent z (now (x .entry)) (now (y .entry))) q ⌝ }
 {
+    let m = z.m;
+    let n = z.n;
+    let last = z.strokes - 1;
     let mut up = [0; 11];
     let mut down = [0; 11];
     let mut means = [0; 11];
     let mut up_limits = [0; 11];
     let mut down_limits = [0; 11];
-    grounds::summed(m, n, x, y, &mut up, &mut down, &mut means);
-    both_limits(m, n, y, &mut up_limits, &mut down_limits);
-    nine_in(m, n, x, y, &up, &down, &means, &up_limits, &down_limits)
+    grounds::summed(z, x, y, &mut up, &mut down, &mut means);
+    both_limits(m, n, last, y, &mut up_limits, &mut down_limits);
+    nine_in(z, x, y, &up, &down, &means, &up_limits, &down_limits)
 }

@@ -109,7 +109,7 @@ pub record ToldFirst (s : List ℕ) (p : ℕ) : Type 0 where
 pub record FirstMissing (s : List ℕ) (p : ℕ) : Type 0 where
   pub place : Place
   pub told : detail-of s 7 p ≡ lacking (some place)
-  pub gap : let rs = its (up-to-close run-file s) in Gap (places (sizes-of rs .m) (sizes-of rs .n)) (entries-of rs) place
+  pub gap : let rs = its (up-to-close run-file s) in Gap (places (sizes-of rs)) (entries-of rs) place
 
 -- 10: the two records told give readings of one stroke at the point in two cycles, the first more than 10,000 above the second
 pub record TwoApart (s : List ℕ) (p : ℕ) : Type 0 where

@@ -1,6 +1,6 @@
 -- What more is told of a refused run file names the records meant: what `Meant` states of 6, 7 and 10 holds.
 use mathlib.Core.Path.{_≡_, refl, sym, ap, ap₂, _∙_, subst}
-use mathlib.Core.Bool.{Bool, true, false, not, cond, _&&_}
+use mathlib.Core.Bool.{Bool, true, false, not, _&&_}
 use mathlib.Core.List.{List, [], _∷_, _++_, append-assoc}
 use Prim.Native.Nat.{ℕ, suc, _<_}
 use native.Mathlib.Omega.{arith}
@@ -10,11 +10,9 @@ use lib.IntN.{ℤ, pos, _-ℤ_, +ℤ-invr}
 use lib.ListN.{length, length-append}
 use lib.Signed.{leZ}
 use mir.Facts.{and-yes, yes-and}
-use Rattle.whole.specs.Flags.{T-yes}
 use Rattle.limits.specs.Laws.{sizes-within}
 use Rattle.run.specs.Run.{reading}
 use Rattle.run.specs.Places.{Place, input-at, reading-at, within, places}
-use Rattle.run.specs.Limits.{stroke-calm}
 use Rattle.run.specs.declared.Run.{Run}
 use Rattle.records.specs.Record.{Sizes, Entry, Record, entry, Labelled, its, sizes-of, entries-of, closed, number-at}
 use Rattle.records.specs.Meaning.{fair, complete, run-of}
@@ -25,9 +23,9 @@ use Rattle.format.specs.Found.{Standing, stands, ends, strange, standing-at}
 use Rattle.format.specs.Met.{met-as}
 use Rattle.format.specs.Behind.{first-behind, stands-there}
 use Rattle.record.specs.Kinds.{run-file}
-use Rattle.detail.specs.Detail.{label-at, told-where, lacking, above, below, apart-in, apart-at}
+use Rattle.detail.specs.Detail.{label-at, largest, told-where, lacking, above, below, stroke-apart}
 use Rattle.detail.specs.Again.{Again, six-again}
-use Rattle.detail.specs.Apart.{LieApart, stroke-apart, far-apart}
+use Rattle.detail.specs.Apart.{LieApart, far-apart}
 use Rattle.detail.specs.Unfilled.{seven-lacks, lacking-gap}
 use Rattle.records.specs.ByNumber.{ten-scattered}
 use Rattle.records.specs.Closed.{closed-there}
@@ -41,13 +39,17 @@ use Rattle.place_text.specs.Offset.{stands-at-offset}
 
 -- ---- 6
 -- a place of a run is one of the largest
-largest : (z : Sizes) → T (fair z) → (p : Place) → T (within (z .m) (z .n) p) → within 11 10 p ≡ true
-largest z f (input-at i) w = lt-ltb i 11 (omega (arith, ltb→lt i (z .m) w, sizes-within {m = z .m} {n = z .n} f .1))
-largest z f (reading-at s c i) w =
-    let most = sizes-within {m = z .m} {n = z .n} f in
-    let u = and-yes (ltb s 2) (ltb c (z .n) && ltb i (z .m)) w in
+among-largest : (z : Sizes) → T (fair z) → (p : Place) → T (within z p) → within largest p ≡ true
+among-largest z f (input-at i) w = lt-ltb i 11 (omega (arith, ltb→lt i (z .m) w, sizes-within z f .m-most))
+among-largest z f (reading-at s c i) w =
+    let most = sizes-within z f in
+    let u = and-yes (ltb s (z .strokes)) (ltb c (z .n) && ltb i (z .m)) w in
     let v = and-yes (ltb c (z .n)) (ltb i (z .m)) (u .1) in
-    rw (T-yes {b = ltb s 2} (u .0), lt-ltb c 10 (omega (arith, ltb→lt c (z .n) (v .0), most .3)), lt-ltb i 11 (omega (arith, ltb→lt i (z .m) (v .1), most .1)))
+    rw (
+      lt-ltb s 2 (omega (arith, ltb→lt s (z .strokes) (u .0), most .strokes-most)),
+      lt-ltb c 10 (omega (arith, ltb→lt c (z .n) (v .0), most .n-most)),
+      lt-ltb i 11 (omega (arith, ltb→lt i (z .m) (v .1), most .m-most)),
+    )
 
 -- what is met as an entry stands there
 entry-stands : (st : Standing) (e : Entry) → entry e ≡ met-as st → (end : ℕ) × (st ≡ stands (entry e) end)
@@ -80,7 +82,7 @@ module _ (s : List ℕ) (p : ℕ) (a : Again (up-to-close run-file s .records) p
   told-6 =
       ap (first-told (passed-over s p)) (standing .1)
       ∙ ap (λ (xs : List Labelled). Earlier (told-where at-place xs)) passed-are
-      ∙ ap Earlier (rw (largest (sizes-of (its (up-to-close run-file s))) (a .fair-sizes) at-place (a .inside-whole)) (f .told ∙ omega arith))
+      ∙ ap Earlier (rw (among-largest (sizes-of (its (up-to-close run-file s))) (a .fair-sizes) at-place (a .inside-whole)) (f .told ∙ omega arith))
 
   stood : up-to-close run-file s .records ≡ f .front ++ (f .it ∷ (f .back ++ (a .it ∷ a .after)))
   stood = a .stands ∙ ap (λ (l : List Labelled). l ++ (a .it ∷ a .after)) (f .all) ∙ append-assoc (f .front) (f .it ∷ f .back) (a .it ∷ a .after)
@@ -113,18 +115,10 @@ more-of-7-holds s p m =
     let z = sizes-of rs in
     let told = told-there s 7 p m (λ e. omega arith) in
     let u = seven-lacks (up-to-close run-file s) p told in
-    let g = lacking-gap (places (z .m) (z .n)) (entries-of rs) (subst (λ (es : List Entry). T (not (complete z es))) (entries-before s p told) (u .lacks)) in
+    let g = lacking-gap (places z) (entries-of rs) (subst (λ (es : List Entry). T (not (complete z es))) (entries-before s p told) (u .lacks)) in
     record { place = g .0; told = ap lacking (g .1); gap = g .2 }
 
 -- ---- 10
--- the two that are told are those of the stroke whose readings lie apart
-apart-of : (r : Run) (xs : List Labelled) (i : ℕ) → apart-at r xs i ≡ apart-in r xs (stroke-apart r i) i
-apart-of r xs i = go (stroke-calm r 0 i)
-  where
-    go : (b : Bool) → cond b (apart-in r xs 1 i) (apart-in r xs 0 i) ≡ apart-in r xs (cond b 1 0) i
-    go true = refl
-    go false = refl
-
 module _ (s : List ℕ) (p : ℕ) where
   abbrev rs : List Record
   rs = its (up-to-close run-file s)
@@ -139,9 +133,9 @@ module _ (s : List ℕ) (p : ℕ) where
     is : it .it ≡ entry (record { place = reading-at t c p; number = reading r t c p })
 
   module _ (c : T (clean [] rs)) (k : T (closed rs)) (h : p < r .m) where
-    gives : (t d : ℕ) → t < 2 → d < r .n → Gives t d
+    gives : (t d : ℕ) → t < r .strokes → d < r .n → Gives t d
     gives t d a b =
-        let w : T (within (r .m) (r .n) (reading-at t d p)) = yes-and (ltb t 2) (ltb d (r .n) && ltb p (r .m)) (lt→ltb t 2 a) (yes-and (ltb d (r .n)) (ltb p (r .m)) (lt→ltb d (r .n) b) (lt→ltb p (r .m) h)) in
+        let w : T (within (sizes-of rs) (reading-at t d p)) = yes-and (ltb t (r .strokes)) (ltb d (r .n) && ltb p (r .m)) (lt→ltb t (r .strokes) a) (yes-and (ltb d (r .n)) (ltb p (r .m)) (lt→ltb d (r .n) b) (lt→ltb p (r .m) h)) in
         let full = closed-there rs c k in
         let f = first-at (reading-at t d p) 1 (up-to-close run-file s .records) (full .1 (reading-at t d p) w) in
         let number : f .what .number ≡ reading r t d p = f .number-is ∙ sym (run-at (sizes-of rs) (λ q. number-at q (entries-of rs)) (full .0) (reading-at t d p) w) in
@@ -159,7 +153,7 @@ module _ (s : List ℕ) (p : ℕ) where
         record {
           high = label-at (reading-at t (above r t p) p) (all-numbered s);
           low = label-at (reading-at t (below r t p) p) (all-numbered s);
-          told = apart-of r (all-numbered s) p;
+          told = refl;
           stroke = t;
           higher = above r t p;
           lower = below r t p;

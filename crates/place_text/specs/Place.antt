@@ -13,7 +13,7 @@ use Rattle.record.specs.Kinds.{run-file}
 use Rattle.reader.specs.Meaning.{meaning}
 use Rattle.plain.specs.Plain.{refused-line}
 use Rattle.plain.specs.Digits.{decimal}
-use Rattle.spoken.specs.Said.{points-word, cycles-word, point-word, cycle-word, stroke-word, spaced}
+use Rattle.spoken.specs.Said.{points-word, point-word, cycle-word, stroke-word, strokes-word, spaced}
 use Rattle.detail.specs.Detail.{label-at, told-where, apart-at}
 pub use Rattle.detail.specs.Detail.{lacks}
 use Rattle.detail.specs.declared.Detail.{Detail}
@@ -70,8 +70,9 @@ abbrev pub place-words : Place → List (List ℕ)
 place-words (input-at i) = point-word ∷ decimal i ∷ []
 place-words (reading-at s c i) = cond (ltb s 2) (stroke-word s ∷ point-word ∷ decimal i ∷ cycle-word ∷ decimal c ∷ []) (stroke-name ∷ decimal s ∷ [])
 
+-- a record; an opening names its strokes, as in a text
 abbrev pub record-words : Record → List (List ℕ)
-record-words (opening z) = points-word ∷ decimal (z .m) ∷ cycles-word ∷ decimal (z .n) ∷ []
+record-words (opening z) = points-word ∷ decimal (z .m) ∷ strokes-word (z .strokes) ∷ decimal (z .n) ∷ []
 record-words (entry e) = place-words (e .place)
 record-words close = close-name ∷ []
 record-words unknown = []

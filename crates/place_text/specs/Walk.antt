@@ -15,7 +15,7 @@ use Rattle.run.specs.PlaceLaws.{and-true}
 use Rattle.records.specs.Record.{Sizes, Entry, Record, opening, entry, unknown, cut, Labelled, at-label, Recorded, closes}
 use Rattle.format.specs.Format.{kind-of, alone, in-front}
 use Rattle.format.specs.Found.{Standing, stands, ends, strange, standing-of, standing-at, stands-within, from, met, met-at}
-use Rattle.record.specs.Kinds.{opening-kind, run-file}
+use Rattle.record.specs.Kinds.{opening-kind, single-kind, run-file}
 use Rattle.detail.specs.Marks.{Marked, Marking, LabelOf}
 use Rattle.detail.specs.Marking.{marking-none}
 use Rattle.detail.specs.declared.Detail.{Detail}
@@ -58,21 +58,22 @@ pub record FirstTold (s : List ℕ) (place : ℕ) (labels : List ℕ) (d : Detai
   pub is : (xs : List Labelled) (y : List ℤ) → Marked xs labels y → d ≡ first-told xs (standing-at run-file false s place)
 
 -- ---- what stands first in a run file opens it, and is longer than one byte
-first-sizes : List ℕ → Sizes
-first-sizes s = let b = take 2 (drop 1 s) in record { m = getD b 0 0; n = getD b 1 0 }
+first-sizes : (strokes : ℕ) → List ℕ → Sizes
+first-sizes strokes s = let b = take 2 (drop 1 s) in record { m = getD b 0 0; n = getD b 1 0; strokes = strokes }
 
 pub first-opens : (s : List ℕ) {r : Record} {end : ℕ} → standing-at run-file true s 0 ≡ stands r end → ((z : Sizes) × (r ≡ opening z)) × (1 < end)
 unfolding kind-of first-sizes
-first-opens s {r} {end} = go (leb (length s) 0) (eqb (getD s 0 0) 1)
+first-opens s {r} {end} = go (leb (length s) 0) (eqb (getD s 0 0) 1) (eqb (getD s 0 0) 5)
   where
-    go : (b c : Bool) → cond b ends (standing-of (cond c (some opening-kind) none) s 0) ≡ stands r end → ((z : Sizes) × (r ≡ opening z)) × (1 < end)
-    go true c q = let z : _≡_ {A = ℕ} 0 1 = cc in absurd (omega arith)
-    go false false q = let z : _≡_ {A = ℕ} 0 1 = cc in absurd (omega arith)
-    go false true q = sized (ltb (length s - 0) 3) q
-      where
-        sized : (d : Bool) → cond d ends (stands (opening (first-sizes s)) 3) ≡ stands r end → ((z : Sizes) × (r ≡ opening z)) × (1 < end)
-        sized true q = let z : _≡_ {A = ℕ} 0 1 = cc in absurd (omega arith)
-        sized false q = let e : 3 ≡ end = cc in let f : r ≡ opening (first-sizes s) = cc in ((first-sizes s, f), omega (arith, e))
+    sized : (strokes : ℕ) (d : Bool) → cond d ends (stands (opening (first-sizes strokes s)) 3) ≡ stands r end → ((z : Sizes) × (r ≡ opening z)) × (1 < end)
+    sized strokes true q = let z : _≡_ {A = ℕ} 0 1 = cc in absurd (omega arith)
+    sized strokes false q = let e : 3 ≡ end = cc in let f : r ≡ opening (first-sizes strokes s) = cc in ((first-sizes strokes s, f), omega (arith, e))
+
+    go : (b c d : Bool) → cond b ends (standing-of (cond c (some opening-kind) (cond d (some single-kind) none)) s 0) ≡ stands r end → ((z : Sizes) × (r ≡ opening z)) × (1 < end)
+    go true c d q = let z : _≡_ {A = ℕ} 0 1 = cc in absurd (omega arith)
+    go false true d q = sized 2 (ltb (length s - 0) 3) q
+    go false false true q = sized 1 (ltb (length s - 0) 3) q
+    go false false false q = let z : _≡_ {A = ℕ} 0 1 = cc in absurd (omega arith)
 
 -- ---- one step
 -- the number one higher fits where a byte stands at the place

@@ -18,7 +18,8 @@ use Rattle.plain.specs.Digits.{decimal}
 use Rattle.plain.specs.Grown.{Put}
 use Rattle.plain.specs.GrownLaws.{put-is}
 use Rattle.plain.specs.Most.{Most, word, after, joined, decimal-most}
-use Rattle.spoken.specs.Said.{points-word, cycles-word, point-word, cycle-word, stroke-word, reading-place, spaced}
+use Rattle.spoken.specs.Said.{points-word, point-word, cycle-word, stroke-word, reading-place, spaced}
+use Rattle.spoken.specs.Long.{strokes-long}
 use Rattle.detail.specs.Detail.{label-at}
 use Rattle.sentences.specs.Sentences.{record-name, not-name}
 use Rattle.sentences.specs.SentenceLaws.{either, stroke-most, detail-most}
@@ -136,7 +137,7 @@ place-most (reading-at s c i) =
 record-most : (r : Record) → Most (led (record-words r)) 59
 unfolding led
 record-most (opening z) =
-    wide 59 (after 32 (joined (word points-word) (after 32 (joined (decimal-most (z .m)) (after 32 (joined (word cycles-word) (after 32 (joined (decimal-most (z .n)) (word []))))))))) (omega arith)
+    after 32 (joined (word points-word) (after 32 (joined (decimal-most (z .m)) (after 32 (joined (strokes-long (z .strokes)) (after 32 (joined (decimal-most (z .n)) (word []))))))))
 record-most (entry e) = place-most (e .place)
 record-most close = record { most = omega arith }
 record-most unknown = record { most = omega arith }

@@ -9,7 +9,6 @@ ghost use Rattle.run.specs.Places.{input-at, reading-at};
 ghost use Rattle.plain.specs.Digits.{decimal};
 ghost use Rattle.plain.specs.Grown.{Put};
 ghost use Rattle.plain.specs.Plain as P;
-ghost use Rattle.reader.specs.Meaning.{meaning};
 ghost use Rattle.records.specs.Record.{closes};
 ghost use Rattle.record.specs.Kinds.{as-record};
 ghost use Rattle.detail.specs.Marks.{Marked};
@@ -20,7 +19,9 @@ ghost use Rattle.place_text.specs.Walk as W;
 ghost use Rattle.place_text.specs.Told.{Means, OfRecord, OfPoint};
 use detail::Detail;
 use held::record_at;
+use limits::Sizes;
 use plain::Printed;
+use plain::put_byte;
 use plain::put_bytes;
 use plain::put_decimal;
 use record::Found;
@@ -31,7 +32,7 @@ fn is_close(r: Record) -> bool
     ensures { λ b. ⌜ b ≡ closes (as-record r) ⌝ }
 {
     match r {
-        Record::Opening { m: _, n: _ } => false,
+        Record::Opening { sizes: _ } => false,
         Record::Point { index: _, x: _ } => false,
         Record::Value {
             stroke: _,
@@ -109,14 +110,19 @@ fn number_records(s: &[u8], limit: usize, labels: &mut [usize; 231], y: &mut [i6
 }
 
 // ---- a record in words
-fn put_opening(out: &mut [u8; 831], at: usize, m: usize, n: usize) -> usize
+fn put_opening(out: &mut [u8; 831], at: usize, z: Sizes) -> usize
     requires { ⌜ length (now out) ≡ 831 ⌝ }
-    ensures { λ k. ⌜ Put (now (out .entry)) at (led (S.record-words (as-record (Record.Opening m n)))) (now (out .exit)) k ⌝ }
+    ensures { λ k. ⌜ Put (now (out .entry)) at (led (S.record-words (as-record (Record.Opening z)))) (now (out .exit)) k ⌝ }
 {
+    let m = z.m;
+    let n = z.n;
+    let strokes = z.strokes;
     let points = put_bytes(out, at, b" points ");
     let m_told = put_decimal(out, points, m as u64);
-    let cycles = put_bytes(out, m_told, b" cycles ");
-    put_decimal(out, cycles, n as u64)
+    let space = put_byte(out, m_told, b' ');
+    let named = spoken::put_strokes(out, space, strokes);
+    let behind = put_byte(out, named, b' ');
+    put_decimal(out, behind, n as u64)
 }
 
 fn put_point(out: &mut [u8; 831], at: usize, i: usize) -> usize
@@ -132,7 +138,7 @@ fn put_reading(out: &mut [u8; 831], at: usize, s: usize, c: usize, i: usize) -> 
     ensures { λ k. ⌜ Put (now (out .entry)) at (led (S.place-words (reading-at s c i))) (now (out .exit)) k ⌝ }
 {
     if s < 2 {
-        let space = plain::put_byte(out, at, b' ');
+        let space = put_byte(out, at, b' ');
         return spoken::put_reading_place(out, space, s, c, i);
     }
     let stroke = put_bytes(out, at, b" stroke ");
@@ -144,7 +150,7 @@ fn put_record(out: &mut [u8; 831], at: usize, r: Record) -> usize
     ensures { λ k. ⌜ Put (now (out .entry)) at (led (S.record-words (as-record r))) (now (out .exit)) k ⌝ }
 {
     match r {
-        Record::Opening { m, n } => put_opening(out, at, m, n),
+        Record::Opening { sizes } => put_opening(out, at, sizes),
         Record::Point { index, x: _ } => put_point(out, at, index),
         Record::Value {
             stroke,
@@ -194,7 +200,7 @@ fn put_head(out: &mut [u8; 831], at: usize, k: usize) -> usize
 {
     let word = put_bytes(out, at, b"record ");
     let told = put_decimal(out, word, k as u64);
-    plain::put_byte(out, told, b':')
+    put_byte(out, told, b':')
 }
 
 // ---- what more is told
@@ -203,7 +209,7 @@ fn first_told(s: &[u8], place: usize, labels: &[usize; 231]) -> Detail
 {
     match record_at(s, place, false) {
         Found::Item { record, next: _ } => match record {
-            Record::Opening { m: _, n: _ } => Detail::Nothing,
+            Record::Opening { sizes: _ } => Detail::Nothing,
             Record::Point { index: _, x: _ } => Detail::Earlier {
                 label: detail::label_of(labels, record),
             },
@@ -231,7 +237,8 @@ fn more_at(s: &[u8], number: usize, place: usize, labels: &[usize; 231]) -> Deta
     }
     if number == 7 {
         let t = reader::opening(s);
-        return detail::missing(t.m, t.n, labels);
+        let sizes = t.sizes;
+        return detail::missing(sizes, labels);
     }
     Detail::Nothing
 }
@@ -250,7 +257,8 @@ fn more_of_point(
         return Detail::Nothing;
     }
     let t = reader::opening(s);
-    detail::apart(t.n, labels, y, place)
+    let sizes = t.sizes;
+    detail::apart(sizes.n, sizes.strokes, labels, y, place)
 }
 
 // ---- the lines
@@ -262,7 +270,7 @@ fn put_what(out: &mut [u8; 831], at: usize, s: &[u8], number: usize, place: usiz
         put_bytes(out, at, b" behind the close\n")
     } else {
         let told = put_standing(out, at, s, place);
-        plain::put_byte(out, told, b'\n')
+        put_byte(out, told, b'\n')
     }
 }
 
@@ -289,7 +297,7 @@ fn put_of_point(out: &mut [u8; 831], at: usize, s: &[u8], number: usize, place: 
     number_records(s, s.len(), &mut labels, &mut y);
     let head = put_head(out, at, labels[place]);
     let named = put_point(out, head, place);
-    let line = plain::put_byte(out, named, b'\n');
+    let line = put_byte(out, named, b'\n');
     sentences::put_detail(
         out,
         line,

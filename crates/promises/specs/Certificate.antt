@@ -15,8 +15,8 @@ use Rattle.run.specs.declared.Run.{Run}
 use Rattle.band.specs.Line.{Line}
 use Rattle.band.specs.Candidate.{Candidate}
 use Rattle.pin.specs.Pair.{rise, wide, part}
-use Rattle.bands.specs.Through.{means, strokes, limit-points, swing, scatter}
-use Rattle.due.specs.Due.{from-zero, scatters}
+use Rattle.bands.specs.Through.{means, stroke-points, limit-points, swing, scatter}
+use Rattle.due.specs.Due.{from-zero, needs-down, scatters}
 use Rattle.due.specs.declared.Answer.{Answer}
 use Rattle.due.specs.declared.Index.{Index}
 use Rattle.due.specs.declared.Index.the-variants as index
@@ -68,20 +68,20 @@ shows (best c) r L w z = single (means r) c L ∷ all (half (means r) c w z) ∷
 shows (zero i j) r L w z = best-through r (pos 0) (pos 0) i j L w z
 shows (front i j) r L w z = let P = means r in best-through r (P .x 0) (P .low 0) i j L w z
 shows (swings i c) r L w z = single (means r) c L ∷ all (largest-of (r .m) (swing r) w i) ∷ eqb z (r .n) ∷ []
-shows (varies i c l) r L w z = single (means r) c L ∷ all (largest-of (r .m) (scatter (limits l)) w i) ∷ eqb z (r .n) ∷ smallests r (limits l) ∷ []
-shows (lh c) r L w z = single (strokes r) c L ∷ all (half (strokes r) c w z) ∷ []
+shows (varies i c l) r L w z = single (means r) c L ∷ all (largest-of (r .m) (scatter r (limits l)) w i) ∷ eqb z (r .n) ∷ smallests r (limits l) ∷ []
+shows (lh c) r L w z = single (stroke-points r) c L ∷ all (half (stroke-points r) c w z) ∷ []
 shows (lhr c l) r L w z = let P = limit-points r (limits l) in single P c L ∷ all (half P c w z) ∷ smallests r (limits l) ∷ []
 
 -- and the answer is the one with that line and width
 abbrev pub gives : {which : Index} → Certificate which → Run → Answer → List Bool
 gives (one-line w z s) r a = ltb 0 z ∷ all (shows s r (line-of a) w z) ∷ all (stands r (line-of a) w z a) ∷ []
 gives (zero-several w z A B) r a = let P = means r in ltb 0 z ∷ all (pinned-many P (pos 0) (pos 0) A B) ∷ all (alike (natAbs (rise P (pos 0) 0)) (P .d) w z) ∷ all (width-only w z a) ∷ []
-gives (lh-several w z c A B) r a = ltb 0 z ∷ all (many (strokes r) c A B) ∷ all (half (strokes r) c w z) ∷ all (width-only w z a) ∷ []
+gives (lh-several w z c A B) r a = ltb 0 z ∷ all (many (stroke-points r) c A B) ∷ all (half (stroke-points r) c w z) ∷ all (width-only w z a) ∷ []
 
 -- the input is not negative
 abbrev pub from-zero-up : Run → ℕ → Bool
 from-zero-up r i = leZ (pos 0) (input r i)
 
--- no check refuses the run, where zero-based linearity is asked for no input is negative, and where scatter is asked for it has more cycles than one
+-- no check refuses the run, where zero-based linearity is asked for no input is negative, where the way back is asked for it has more strokes than one, and where scatter is more cycles
 abbrev pub certifies : (f : Figure) → Certificate (f .which) → Bool
-certifies f c = all (eqb (verdict (f .run) .number) 0 ∷ (not (from-zero (f .which)) || every (f .run .m) (from-zero-up (f .run))) ∷ not (scatters (f .which) && eqb (f .run .n) 1) ∷ all (gives c (f .run) (f .answer)) ∷ [])
+certifies f c = all (eqb (verdict (f .run) .number) 0 ∷ (not (from-zero (f .which)) || every (f .run .m) (from-zero-up (f .run))) ∷ not (needs-down (f .which) && eqb (f .run .strokes) 1) ∷ not (scatters (f .which) && eqb (f .run .n) 1) ∷ all (gives c (f .run) (f .answer)) ∷ [])

@@ -22,7 +22,7 @@ use Rattle.bands.specs.Parts as lines
 use Rattle.bands.specs.Transfer.{proper-points}
 use Rattle.bands.specs.Limited.{same-limit-points}
 use Rattle.bands.specs.Admitted.{proper-means, proper-through}
-use Rattle.due.specs.Due.{Best, Independent, Fits, from-zero, BelowZero, scatters, OneCycle, Due}
+use Rattle.due.specs.Due.{Best, Independent, Fits, from-zero, BelowZero, needs-down, OneStroke, scatters, OneCycle, Due}
 use Rattle.due.specs.Cases.{Given, several, one-line, given, case-due}
 use Rattle.due.specs.declared.Answer.{Answer}
 use Rattle.due.specs.declared.Index.{Index}
@@ -64,11 +64,11 @@ module _ {r : Run} (c : Checked r) (L : Line) where
   shows-by (swings i e) w z n h t = let (s, (l, (k, _))) = all-hold (shows (swings i e) r L w z) t in (independent-by e s, largest-of-by (r .m) (swing r) w i l, eqb→eq z (r .n) k)
   shows-by (varies i e l) w z n h t =
       let (s, (g, (k, (u, _)))) = all-hold (shows (varies i e l) r L w z) t in
-      (independent-by e s, record { k = limits l; limits = limits-by r (limits l) u; holds = largest-of-by (r .m) (scatter (limits l)) w i g }, eqb→eq z (r .n) k)
+      (independent-by e s, record { k = limits l; limits = limits-by c (limits l) u; holds = largest-of-by (r .m) (scatter r (limits l)) w i g }, eqb→eq z (r .n) k)
   shows-by (lh e) w z n h t = let (s, (k, _)) = all-hold (shows (lh e) r L w z) t in best-by (proper-through c lines.Strokes) e w z s k
   shows-by (lhr e l) w z n h t =
       let (s, (k, (u, _))) = all-hold (shows (lhr e l) r L w z) t in
-      let found = limits-by r (limits l) u in
+      let found = limits-by c (limits l) u in
       let p = same-limit-points r (limits-agree r (limits-found c (n tt)) found) in
       record { k = limits l; limits = found; holds = best-by (proper-points p (proper-through c lines.Limits)) e w z s k }
 
@@ -98,8 +98,9 @@ not-below which r t b =
 pub certified : (f : Figure) (c : Certificate (f .which)) → T (certifies f c) → Due (f .which) (f .run) (f .answer)
 certified f c t =
     let r = f .run in
-    let (fine, (inputs, (cycles, (answer, _)))) = all-hold (eqb (verdict r .number) 0 ∷ (not (from-zero (f .which)) || every (r .m) (from-zero-up r)) ∷ not (scatters (f .which) && eqb (r .n) 1) ∷ all (gives c r (f .answer)) ∷ []) t in
+    let (fine, (inputs, (strokes, (cycles, (answer, _))))) = all-hold (eqb (verdict r .number) 0 ∷ (not (from-zero (f .which)) || every (r .m) (from-zero-up r)) ∷ not (needs-down (f .which) && eqb (r .strokes) 1) ∷ not (scatters (f .which) && eqb (r .n) 1) ∷ all (gives c r (f .answer)) ∷ []) t in
     let v : verdict r .number ≡ 0 = eqb→eq (verdict r .number) 0 fine in
     let more : OneCycle (f .which) r → ⊥ = λ o. T-not (scatters (f .which) && eqb (r .n) 1) (yes-and (scatters (f .which)) (eqb (r .n) 1) (o .0) (yes-eqb (o .1))) cycles in
+    let back : OneStroke (f .which) r → ⊥ = λ o. T-not (needs-down (f .which) && eqb (r .strokes) 1) (yes-and (needs-down (f .which)) (eqb (r .strokes) 1) (o .0) (yes-eqb (o .1))) strokes in
     let k = checked r v in
-    case-due (given v (not-below (f .which) r inputs) more (gives-by k (λ s. let e : r .n ≢ 1 = λ e. more (s, e) in omega arith) c answer))
+    case-due (given v (not-below (f .which) r inputs) back more (gives-by k (λ s. let e : r .n ≢ 1 = λ e. more (s, e) in omega arith) c answer))

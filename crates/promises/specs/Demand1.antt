@@ -1,6 +1,6 @@
 -- Demand 1. "Every byte string given as a run file, and every run built by hand, gets its numbers or exactly one refusal of the paper's table, chosen by the paper's order of checks, with the fixed fields listed there; a lent buffer then holds what it held before." The statement; `Demand1Holds` proves it.
 --
--- What it says: for each byte string, and for each run and index, there is exactly one answer. The refusals of a byte string (`records` `Meaning`), of a run built by hand (`run` `Checks`), of an index (`due` `Due`) and of a write (`writer` `File`) are tables, and the number is that of the first condition that holds (`table` `Table`); `words` says it record by record, and `index-exactly` and `write-exactly` number by number. The numbers are those of the paper's table and 15 of request C-11, the fields under a refusal are the fixed ones, and a refused write or sheet leaves the buffer as it was.
+-- What it says: for each byte string, and for each run and index, there is exactly one answer. The refusals of a byte string (`records` `Meaning`), of a run built by hand (`run` `Checks`), of an index (`due` `Due`) and of a write (`writer` `File`) are tables, and the number is that of the first condition that holds (`table` `Table`); `words` says it record by record, and `index-exactly` and `write-exactly` number by number. The numbers are those of the paper's table, 15 of request C-11 and 16 of request C-13, the fields under a refusal are the fixed ones, and a refused write or sheet leaves the buffer as it was.
 -- What it does not say: what a program reads and prints. No contract can; the comparison with the second program holds it.
 use mathlib.Core.Path.{_≡_}
 use mathlib.Core.List.{List, [], _∷_, _++_}
@@ -25,7 +25,7 @@ use Rattle.reader.specs.Meaning as M
 use Rattle.reader.specs.Meaning.{meaning, FileDue, CloseDue}
 use Rattle.writer.specs.File.{file, written, buffer-after}
 use Rattle.averages.specs.Averages.{AveragesDue}
-use Rattle.due.specs.Due.{BelowZero, OneCycle, SeveralReach, LevelLine, only-width, refused, Due}
+use Rattle.due.specs.Due.{BelowZero, OneStroke, OneCycle, SeveralReach, LevelLine, only-width, refused, Due}
 use Rattle.due.specs.declared.Answer.{Answer}
 use Rattle.due.specs.declared.Index.{Index}
 use Rattle.sheet_text.specs.Sheet.{SheetDue, PrintDue}
@@ -48,10 +48,11 @@ Passed r = verdict r .number ≡ 0
 -- each number of an index is given exactly when its condition is the first to hold, and 0 when none holds
 pub record IndexExactly (which : Index) (r : Run) (a : Answer) : Type 0 where
   pub fifteen : (a .number ≡ 15) ↔ (Passed r × BelowZero which r)
-  pub thirteen : (a .number ≡ 13) ↔ (Passed r × ¬ (BelowZero which r) × OneCycle which r)
-  pub twelve : (a .number ≡ 12) ↔ (Passed r × ¬ (BelowZero which r) × ¬ (OneCycle which r) × SeveralReach which r)
-  pub eleven : (a .number ≡ 11) ↔ (Passed r × ¬ (BelowZero which r) × ¬ (OneCycle which r) × ¬ (SeveralReach which r) × LevelLine which r)
-  pub zero : (a .number ≡ 0) ↔ (Passed r × ¬ (BelowZero which r) × ¬ (OneCycle which r) × ¬ (SeveralReach which r) × ¬ (LevelLine which r))
+  pub sixteen : (a .number ≡ 16) ↔ (Passed r × ¬ (BelowZero which r) × OneStroke which r)
+  pub thirteen : (a .number ≡ 13) ↔ (Passed r × ¬ (BelowZero which r) × ¬ (OneStroke which r) × OneCycle which r)
+  pub twelve : (a .number ≡ 12) ↔ (Passed r × ¬ (BelowZero which r) × ¬ (OneStroke which r) × ¬ (OneCycle which r) × SeveralReach which r)
+  pub eleven : (a .number ≡ 11) ↔ (Passed r × ¬ (BelowZero which r) × ¬ (OneStroke which r) × ¬ (OneCycle which r) × ¬ (SeveralReach which r) × LevelLine which r)
+  pub zero : (a .number ≡ 0) ↔ (Passed r × ¬ (BelowZero which r) × ¬ (OneStroke which r) × ¬ (OneCycle which r) × ¬ (SeveralReach which r) × ¬ (LevelLine which r))
   -- any other number is that of the checks of the run, with their place
   pub of-run : ¬ (Passed r) → (a .number ≡ verdict r .number) × (a .place ≡ verdict r .place)
 
@@ -64,13 +65,14 @@ pub record WriteExactly (r : Run) (buffer : List ℕ) : Type 0 where
   pub len : written r buffer .number ≡ 0 → written r buffer .len ≡ length (file r)
   pub after : written r buffer .number ≡ 0 → buffer-after r buffer ≡ file r ++ drop (length (file r)) buffer
 
--- the fixed fields: under 11 the index is 0/1 and the thousandths 0, under 12 all but the width, under any other refusal everything. The place is 0 when accepted, and under 11, 12, 13 and 15
+-- the fixed fields: under 11 the index is 0/1 and the thousandths 0, under 12 all but the width, under any other refusal everything. The place is 0 when accepted, and under 11, 12, 13, 15 and 16
 pub record Fixed (a : Answer) : Type 0 where
   pub accepted : a .number ≡ 0 → a .place ≡ 0
   pub flat : a .number ≡ 11 → (a .place ≡ 0) × (a .index ≡ nought) × (a .thousandths ≡ 0)
   pub several : a .number ≡ 12 → a ≡ only-width (a .width)
   pub one-cycle : a .number ≡ 13 → a ≡ refused 13 0
   pub below-zero : a .number ≡ 15 → a ≡ refused 15 0
+  pub one-stroke : a .number ≡ 16 → a ≡ refused 16 0
   pub no-run : a .number ≤ 10 → (a .number ≡ 0 → ⊥) → a ≡ refused (a .number) (a .place)
 
 -- what is answered and what a lent buffer then holds
@@ -92,7 +94,7 @@ pub record Demand1 : Type 0 where
   pub checks : (r : Run) → ExactlyOne (First (C.checks r))
   pub index : (which : Index) (r : Run) → ExactlyOne (Due which r)
   pub index-exactly : (which : Index) (r : Run) (a : Answer) → Due which r a → IndexExactly which r a
-  pub index-number : (which : Index) (r : Run) (a : Answer) → Due which r a → Among (a .number) (0 ∷ 3 ∷ 5 ∷ 9 ∷ 10 ∷ 11 ∷ 12 ∷ 13 ∷ 15 ∷ [])
+  pub index-number : (which : Index) (r : Run) (a : Answer) → Due which r a → Among (a .number) (0 ∷ 3 ∷ 5 ∷ 9 ∷ 10 ∷ 11 ∷ 12 ∷ 13 ∷ 15 ∷ 16 ∷ [])
   pub index-fixed : (which : Index) (r : Run) (a : Answer) → Due which r a → Fixed a
   pub averages : (r : Run) → ExactlyOne (AveragesDue r)
   -- a buffer lent to the writer

@@ -24,7 +24,7 @@ use Rattle.reader.specs.Meaning.{meaning}
 use Rattle.reader.specs.Once.{meaning-due, one-meaning, close-due, one-close}
 use Rattle.averages.specs.Once.{one-averages}
 use Rattle.due.specs.Due.{refused, only-width}
-use Rattle.due.specs.Cases.{several, one-line, Case, no-run, below-zero, one-cycle, given, due-case}
+use Rattle.due.specs.Cases.{several, one-line, Case, no-run, below-zero, one-stroke, one-cycle, given, due-case}
 use Rattle.due.specs.Once.{one-answer}
 use Rattle.due.specs.declared.Answer.{Answer}
 use Rattle.due.specs.declared.Index.{Index}
@@ -38,19 +38,20 @@ use Rattle.promises.specs.Demand1.{Among, Fixed, Print, Demand1}
 
 -- the number of an index
 abbrev IndexNumber : ℕ → Type 0
-IndexNumber n = Among n (0 ∷ 3 ∷ 5 ∷ 9 ∷ 10 ∷ 11 ∷ 12 ∷ 13 ∷ 15 ∷ [])
+IndexNumber n = Among n (0 ∷ 3 ∷ 5 ∷ 9 ∷ 10 ∷ 11 ∷ 12 ∷ 13 ∷ 15 ∷ 16 ∷ [])
 
 number-among : {which : Index} {r : Run} {a : Answer} → Case which r a → IndexNumber (a .number)
 number-among {r = r} (no-run n e) =
     subst IndexNumber (sym (ap (λ (a : Answer). a .number) e)) (verdict-ind r IndexNumber (inl refl) (inr (inl refl)) (inr (inr (inl refl))) (inr (inr (inr (inl refl)))) (inr (inr (inr (inr (inl refl))))))
 number-among (below-zero v b e) = inr (inr (inr (inr (inr (inr (inr (inr (inl (ap (λ (a : Answer). a .number) e)))))))))
-number-among (one-cycle v n o e) = inr (inr (inr (inr (inr (inr (inr (inl (ap (λ (a : Answer). a .number) e))))))))
-number-among (given v n o (several w z h m f e)) = inr (inr (inr (inr (inr (inr (inl (ap (λ (a : Answer). a .number) e)))))))
-number-among (given v n o (one-line L w z h f c s)) = counted-ind c IndexNumber (inl refl) (inr (inr (inr (inr (inr (inl refl))))))
+number-among (one-stroke v n u e) = inr (inr (inr (inr (inr (inr (inr (inr (inr (inl (ap (λ (a : Answer). a .number) e))))))))))
+number-among (one-cycle v n u o e) = inr (inr (inr (inr (inr (inr (inr (inl (ap (λ (a : Answer). a .number) e))))))))
+number-among (given v n u o (several w z h m f e)) = inr (inr (inr (inr (inr (inr (inl (ap (λ (a : Answer). a .number) e)))))))
+number-among (given v n u o (one-line L w z h f c s)) = counted-ind c IndexNumber (inl refl) (inr (inr (inr (inr (inr (inl refl))))))
 
 -- the fields of an index: under 12 and more
-more : {a : Answer} → 12 ≤ a .number → (a .number ≡ 12 → a ≡ only-width (a .width)) → (a .number ≡ 13 → a ≡ refused 13 0) → (a .number ≡ 15 → a ≡ refused 15 0) → Fixed a
-more h twelve thirteen fifteen = record { accepted = λ i. absurd (omega arith); flat = λ i. absurd (omega arith); several = twelve; one-cycle = thirteen; below-zero = fifteen; no-run = λ l _. absurd (omega arith) }
+more : {a : Answer} → 12 ≤ a .number → (a .number ≡ 12 → a ≡ only-width (a .width)) → (a .number ≡ 13 → a ≡ refused 13 0) → (a .number ≡ 15 → a ≡ refused 15 0) → (a .number ≡ 16 → a ≡ refused 16 0) → Fixed a
+more h twelve thirteen fifteen sixteen = record { accepted = λ i. absurd (omega arith); flat = λ i. absurd (omega arith); several = twelve; one-cycle = thirteen; below-zero = fifteen; one-stroke = sixteen; no-run = λ l _. absurd (omega arith) }
 
 fixed : {which : Index} {r : Run} {a : Answer} → Case which r a → Fixed a
 fixed {r = r} {a} (no-run n e) =
@@ -62,24 +63,29 @@ fixed {r = r} {a} (no-run n e) =
       several = λ i. absurd (omega arith);
       one-cycle = λ i. absurd (omega arith);
       below-zero = λ i. absurd (omega arith);
+      one-stroke = λ i. absurd (omega arith);
       no-run = λ _ _. e ∙ sym (ap (λ (a : Answer). refused (a .number) (a .place)) e);
     }
 fixed {a = a} (below-zero v b e) =
     let k : a .number ≡ 15 = ap (λ (a : Answer). a .number) e in
-    more (omega arith) (λ i. absurd (omega arith)) (λ i. absurd (omega arith)) (λ _. e)
-fixed {a = a} (one-cycle v n o e) =
+    more (omega arith) (λ i. absurd (omega arith)) (λ i. absurd (omega arith)) (λ _. e) (λ i. absurd (omega arith))
+fixed {a = a} (one-stroke v n u e) =
+    let k : a .number ≡ 16 = ap (λ (a : Answer). a .number) e in
+    more (omega arith) (λ i. absurd (omega arith)) (λ i. absurd (omega arith)) (λ i. absurd (omega arith)) (λ _. e)
+fixed {a = a} (one-cycle v n u o e) =
     let k : a .number ≡ 13 = ap (λ (a : Answer). a .number) e in
-    more (omega arith) (λ i. absurd (omega arith)) (λ _. e) (λ i. absurd (omega arith))
-fixed {a = a} (given v n o (several w z h m f e)) =
+    more (omega arith) (λ i. absurd (omega arith)) (λ _. e) (λ i. absurd (omega arith)) (λ i. absurd (omega arith))
+fixed {a = a} (given v n u o (several w z h m f e)) =
     let k : a .number ≡ 12 = ap (λ (a : Answer). a .number) e in
-    more (omega arith) (λ _. e) (λ i. absurd (omega arith)) (λ i. absurd (omega arith))
-fixed (given v n o (one-line L w z h f c s)) =
+    more (omega arith) (λ _. e) (λ i. absurd (omega arith)) (λ i. absurd (omega arith)) (λ i. absurd (omega arith))
+fixed (given v n u o (one-line L w z h f c s)) =
     record {
       accepted = λ _. c .place;
       flat = λ i. (c .place, flat-index c s i .0, flat-index c s i .1);
       several = λ i. absurd (counted-ind c (λ n. n ≡ 12 → ⊥) (λ e. omega arith) (λ e. omega arith) i);
       one-cycle = λ i. absurd (counted-ind c (λ n. n ≡ 13 → ⊥) (λ e. omega arith) (λ e. omega arith) i);
       below-zero = λ i. absurd (counted-ind c (λ n. n ≡ 15 → ⊥) (λ e. omega arith) (λ e. omega arith) i);
+      one-stroke = λ i. absurd (counted-ind c (λ n. n ≡ 16 → ⊥) (λ e. omega arith) (λ e. omega arith) i);
       no-run = λ i n. absurd (counted-ind c (λ n. n ≤ 10 → (n ≡ 0 → ⊥) → ⊥) (λ _ n. n refl) (λ i _. omega arith) i n);
     }
 

@@ -1,10 +1,10 @@
 -- Demand 2. "Each accepted run gives exactly the means, lines and indices of the Standard, as fractions in lowest terms. The independent line has the least largest deviation. Writing a run and reading it back gives the same run; reading a file and writing it gives the same records in travel order." The statement; `Demand2Holds` proves it.
 --
--- What it says: of a run that no check refuses, every mean is the sum over all n cycles over its unit; an index that is accepted has a line and a width that `Fits` names for it, and is that width over the full-span output of that line; under 11 that line has slope zero, and under 12 several lines reach the width; all fractions are in lowest terms. The reported independent line keeps every mean within the reported width, and no line of fractions keeps them within less; the same holds of the zero-based line among the lines through the origin, and of the front terminal-based line among those through the first point, where no other line ever reaches the width. The shifted line is the terminal line moved as the paper says. What the writer puts into any buffer that is long enough is read back as the run; of an accepted byte string it puts the same records in travel order there. What stands beyond the points and cycles of a run counts for nothing. That these answers exist and are the only ones, and exactly when each number is given, is demand 1.
+-- What it says: of a run that no check refuses, of two strokes or of an up stroke only (request C-13), every mean is the sum over all n cycles over its unit, and a mean of a stroke that the run does not have is 0/1; an index that is accepted has a line and a width that `Fits` names for it, and is that width over the full-span output of that line; under 11 that line has slope zero, and under 12 several lines reach the width; all fractions are in lowest terms. The reported independent line keeps every mean within the reported width, and no line of fractions keeps them within less; the same holds of the zero-based line among the lines through the origin, and of the front terminal-based line among those through the first point, where no other line ever reaches the width. The shifted line is the terminal line moved as the paper says. What the writer puts into any buffer that is long enough is read back as the run; of an accepted byte string it puts the same records in travel order there. What stands beyond the points, cycles and strokes of a run counts for nothing. That these answers exist and are the only ones, and exactly when each number is given, is demand 1.
 -- What it does not say: that a sensor's readings are right, or that a file holds the readings that were taken.
 use mathlib.Core.Path.{_≡_}
 use mathlib.Core.List.{List}
-use mathlib.Core.Logic.{_↔_}
+use mathlib.Core.Logic.{_⊎_, _↔_}
 use Prim.Native.Nat.{ℕ, _*_, _<_, _≤_}
 use lib.IntN.{ℤ, pos, natAbs, _+ℤ_, _-ℤ_, _*ℤ_}
 use lib.ListN.{length, take, getD}
@@ -14,7 +14,7 @@ use Rattle.exact.specs.declared.Fraction.{Fraction}
 use Rattle.run.specs.Run.{input, reading}
 use Rattle.run.specs.Checks.{verdict}
 use Rattle.run.specs.declared.Run.{Run}
-use Rattle.groups.specs.Sums.{up-sum, down-sum, both-sum}
+use Rattle.groups.specs.Sums.{total, up-sum, both-sum}
 use Rattle.reader.specs.Meaning.{meaning}
 use Rattle.reader.specs.ReadFine as read
 use Rattle.writer.specs.File.{file, written, buffer-after}
@@ -39,11 +39,15 @@ pub record Is (n : ℤ) (d : ℕ) (f : Fraction) : Type 0 where
   pub lowest : Lowest f
   pub worth : Worth f n d
 
--- formulas 1 to 3 at a point
+-- formulas 1 to 3 at a point. A run with an up stroke only has no mean of the down stroke: it is told as 0/1, and T is twice U (request C-13)
 pub record MeansAt (r : Run) (a : Averages) (i : ℕ) : Type 0 where
   pub up : Is (up-sum r i) (r .n) (getD (a .up) i nought)
-  pub down : Is (down-sum r i) (r .n) (getD (a .down) i nought)
+  pub down : r .strokes ≡ 2 → Is (total r 1 i) (r .n) (getD (a .down) i nought)
+  pub no-down : r .strokes ≡ 1 → getD (a .down) i nought ≡ nought
   pub both : Is (both-sum r i) (2 * r .n) (getD (a .both) i nought)
+  pub sum-of-both : r .strokes ≡ 2 → both-sum r i ≡ up-sum r i +ℤ total r 1 i
+  pub twice-up : r .strokes ≡ 1 → both-sum r i ≡ pos 2 *ℤ up-sum r i
+  pub both-is-up : r .strokes ≡ 1 → getD (a .both) i nought ≡ getD (a .up) i nought
 
 -- the line of an index and its width w/z, as the answer reports them
 pub record Drawn (which : Index) (r : Run) (a : Answer) : Type 0 where
@@ -86,7 +90,7 @@ pub record Moved (r : Run) (a : Answer) : Type 0 where
   pub width : let d = 2 * r .n in Is (hi -ℤ lo) (2 * d * base .q) (a .width)
 
 -- ---- files
--- what is written into the buffer is read back as the run, with zeros beyond m and n
+-- what is written into the buffer is read back as the run, its strokes too, with zeros beyond m, n and the strokes
 pub record WrittenBack (r : Run) (buffer : List ℕ) : Type 0 where
   pub number : written r buffer .number ≡ 0
   pub back : meaning (take (written r buffer .len) (buffer-after r buffer)) ≡ read.given (trimmed r)
@@ -98,13 +102,14 @@ pub record SameRecords (s : List ℕ) (r : Run) (buffer : List ℕ) : Type 0 whe
   pub bytes : take (written r buffer .len) (buffer-after r buffer) ≡ file r
   pub records : Rewritten s r
 
--- ---- what stands beyond m and n
--- the runs have the same numbers at the points and cycles of a run, whatever stands beyond them
+-- ---- what stands beyond m, n and the strokes
+-- the runs have the same numbers at the points, cycles and strokes of a run, whatever stands beyond them
 pub record SameWithin (r q : Run) : Type 0 where
   pub m : r .m ≡ q .m
   pub n : r .n ≡ q .n
+  pub strokes : r .strokes ≡ q .strokes
   pub inputs : (i : ℕ) → i < q .m → input r i ≡ input q i
-  pub readings : (s c i : ℕ) → s < 2 → c < q .n → i < q .m → reading r s c i ≡ reading q s c i
+  pub readings : (s c i : ℕ) → s < q .strokes → c < q .n → i < q .m → reading r s c i ≡ reading q s c i
 
 -- and so they have the same answers
 pub record Alike (r q : Run) : Type 0 where
@@ -116,6 +121,7 @@ pub record Alike (r q : Run) : Type 0 where
 
 -- ---- of a run that no check refuses
 pub record Standard (r : Run) : Type 0 where
+  pub strokes : (r .strokes ≡ 1) ⊎ (r .strokes ≡ 2)
   pub averages : (a : Averages) → AveragesDue r a → (i : ℕ) → i < r .m → MeansAt r a i
   pub index : (which : Index) (a : Answer) → Due which r a → a .number ≡ 0 → Accepted which r a
   pub flat : (which : Index) (a : Answer) → Due which r a → a .number ≡ 11 → Flat which r a
@@ -130,8 +136,8 @@ pub record Standard (r : Run) : Type 0 where
   -- 12 is never due for the front terminal-based line: where a line through the first point has the least, it is the only one
   pub front-single : (w z : ℕ) → Least (Front (means r)) (means r) w z → Single (Front (means r)) (means r) w z
   -- an answer under 0 or 11 reports a line
-  pub reports : (which : Index) (a : Answer) → Due which r a → (a .number ≡ 12 → ⊥) → (a .number ≡ 13 → ⊥) → (a .number ≡ 15 → ⊥) → (L : Line) × Reports a L
-  -- written and read back it is the same run, with zeros beyond m and n
+  pub reports : (which : Index) (a : Answer) → Due which r a → (a .number ≡ 12 → ⊥) → (a .number ≡ 13 → ⊥) → (a .number ≡ 15 → ⊥) → (a .number ≡ 16 → ⊥) → (L : Line) × Reports a L
+  -- written and read back it is the same run, with zeros beyond m, n and the strokes
   pub back : (buffer : List ℕ) → length (file r) ≤ length buffer → WrittenBack r buffer
   pub same : TrimmedOf r (trimmed r)
   -- its file is a byte string, so that what follows speaks of it
@@ -144,6 +150,6 @@ pub record Demand2 : Type 0 where
   -- a byte string that is accepted as the run r: it has at most 1,830 bytes, and what the writer puts into a buffer at least as long are the same records in travel order
   pub rewritten : (s : List ℕ) (r : Run) → Bytes s → meaning s ≡ read.given r → (buffer : List ℕ) → length s ≤ length buffer → SameRecords s r buffer
   pub longest : (s : List ℕ) → Bytes s → meaning s .number ≡ 0 → length s ≤ 1830
-  -- what stands beyond m and n counts for nothing: any two runs that are the same within have the same answers, and so have any run and the same with zeros there
+  -- what stands beyond m, n and the strokes counts for nothing: any two runs that are the same within have the same answers, and so have any run and the same with zeros there
   pub within : (r q : Run) → SameWithin r q → Alike r q
   pub zeros : (r : Run) → Alike r (trimmed r)

@@ -31,11 +31,11 @@ module _ (r : Run) (a : Answer) where
   closer : (L : Line) → KeepsCloser r (exact-limit r) L (pos (r .n) *ℤ a .width .num +ℤ pos z) z → KeepsCloser r (exact-limit r) L (pos (step * r .n) *ℤ a .width .num +ℤ pos z) (step * z)
   closer L K = subst (KeepsCloser r (exact-limit r) L (pos (step * r .n) *ℤ a .width .num +ℤ pos z)) (sym (one-step z)) (subst (λ (n : ℕ). KeepsCloser r (exact-limit r) L (pos n *ℤ a .width .num +ℤ pos z) z) (sym (one-step (r .n))) K)
 
-uncertain : (r : Run) → verdict r .number ≡ 0 → 2 ≤ r .n → (a : Answer) → Due index.Lhr r a → Uncertain r a
-uncertain r e two a due = record {
-  no-line = no-line r a (lost r e two a due);
-  kept = λ n L t. closer r a L (kept-closer r e two a due n L t);
-  reported = some-reported r e two a due;
+uncertain : (r : Run) → verdict r .number ≡ 0 → r .strokes ≡ 2 → 2 ≤ r .n → (a : Answer) → Due index.Lhr r a → Uncertain r a
+uncertain r e back two a due = record {
+  no-line = no-line r a (lost r e back two a due);
+  kept = λ n L t. closer r a L (kept-closer r e back two a due n L t);
+  reported = some-reported r e back two a due;
   some-line = some-kept r e two;
   known = known r two;
 }

@@ -13,7 +13,7 @@ use Rattle.run.specs.Sample.{filled, cycles, written-out}
 use Rattle.run.specs.Checks.{fine, verdict}
 use Rattle.run.specs.declared.Run.{Run}
 use Rattle.run.specs.declared.Verdict.{Verdict}
-use Rattle.runfile.specs.Witness.{made, small}
+use Rattle.runfile.specs.Witness.{made, small, of-strokes}
 use Rattle.band.specs.Band.{lent}
 use Rattle.band.specs.Admit.{admits}
 
@@ -34,6 +34,11 @@ points-edges = refl
 pub cycles-edges : map (λ (n : ℕ). verdict (level 11 n)) (0 ∷ 1 ∷ 10 ∷ 11 ∷ []) ≡ refused 3 0 ∷ fine ∷ fine ∷ refused 3 0 ∷ []
 unfolding filled cycles written-out rising every first-not given
 cycles-edges = refl
+
+-- one stroke or two
+pub strokes-edges : map (λ (k : ℕ). verdict (of-strokes k (level 3 1))) (0 ∷ 1 ∷ 2 ∷ 3 ∷ []) ≡ refused 3 0 ∷ fine ∷ fine ∷ refused 3 0 ∷ []
+unfolding filled cycles written-out rising every first-not given
+strokes-edges = refl
 
 -- inputs from -30,000 to 30,000
 pub lowest-input : map (λ (x : ℤ). verdict (small x (pos 0) (pos 1) (pos 0) (pos 0))) (negsuc 30000 ∷ negsuc 29999 ∷ []) ≡ refused 5 0 ∷ fine ∷ []
@@ -70,6 +75,15 @@ up-scatter = refl
 pub down-scatter : map (λ (y : ℤ). verdict (made 2 121 (pos 0) (pos 1) (pos 2) (pos 0) y)) scatter-ends ≡ outer-refused 10
 unfolding every first-not given
 down-scatter = refl
+
+-- of a run with an up stroke only no reading of the down stroke is looked at
+pub unused-readings : map (λ (y : ℤ). verdict (of-strokes 1 (small (pos 0) (pos 1) (pos 2) (pos 0) y))) reading-ends ≡ fine ∷ fine ∷ fine ∷ fine ∷ []
+unfolding every first-not given
+unused-readings = refl
+
+pub unused-scatter : map (λ (y : ℤ). verdict (of-strokes 1 (made 2 121 (pos 0) (pos 1) (pos 2) (pos 0) y))) scatter-ends ≡ fine ∷ fine ∷ fine ∷ fine ∷ []
+unfolding every first-not given
+unused-scatter = refl
 
 -- ---- bands, which lines are drawn past
 -- 3 to 11 inputs

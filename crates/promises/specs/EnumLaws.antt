@@ -29,14 +29,14 @@ use Rattle.fit.specs.Once.{level-single}
 use Rattle.fit.specs.declared.Drawn.{Drawn}
 use Rattle.fit.specs.declared.Drawn.the-variants as drawn
 use Rattle.pin.specs.Answer.{ZeroDue, FrontDue}
-use Rattle.bands.specs.Through.{means, strokes, limit-points}
+use Rattle.bands.specs.Through.{means, stroke-points, limit-points}
 use Rattle.bands.specs.Parts as lines
 use Rattle.bands.specs.Parts.{SamePoints}
 use Rattle.bands.specs.Transfer.{largest-points, terminal-points}
 use Rattle.bands.specs.Limited.{same-limit-points}
 use Rattle.bands.specs.Admitted.{admitted-through, admitted}
-use Rattle.due.specs.Due.{refused, from-zero, scatters, Due}
-use Rattle.due.specs.Cases.{several, one-line, Case, no-run, below-zero, one-cycle, given, due-case}
+use Rattle.due.specs.Due.{refused, from-zero, needs-down, scatters, Due}
+use Rattle.due.specs.Cases.{several, one-line, Case, no-run, below-zero, one-stroke, one-cycle, given, due-case}
 use Rattle.due.specs.DueLaws.{points-not-negative, best-line, many-lines, best-points, many-points, best-zero, many-zero, best-front}
 use Rattle.due.specs.Ground.{Answered}
 use Rattle.due.specs.GroundLaws.{plainly, cycles-two}
@@ -57,12 +57,13 @@ module _ (r : Run) (e : verdict r .number ≡ 0) where
   c : Checked r
   c = checked r e
 
-  -- 15 and 13 refuse an index only with their number
-  answered : {which : Index} {a : Answer} → (T (from-zero which) → ¬ (a .number ≡ 15)) → (T (scatters which) → ¬ (a .number ≡ 13)) → Case which r a → Answered which r
-  answered z s (no-run n _) = absurd (n e)
-  answered z s (below-zero _ b q) = absurd (z (b .asked) (number-is q))
-  answered z s (one-cycle _ _ o q) = absurd (s (o .0) (number-is q))
-  answered z s (given v n o _) = record { fine = v; from-zero = n; cycles = o }
+  -- 15, 16 and 13 refuse an index only with their number
+  answered : {which : Index} {a : Answer} → (T (from-zero which) → ¬ (a .number ≡ 15)) → (T (needs-down which) → ¬ (a .number ≡ 16)) → (T (scatters which) → ¬ (a .number ≡ 13)) → Case which r a → Answered which r
+  answered z u s (no-run n _) = absurd (n e)
+  answered z u s (below-zero _ b q) = absurd (z (b .asked) (number-is q))
+  answered z u s (one-stroke _ _ o q) = absurd (u (o .0) (number-is q))
+  answered z u s (one-cycle _ _ _ o q) = absurd (s (o .0) (number-is q))
+  answered z u s (given v n k o _) = record { fine = v; from-zero = n; strokes = k; cycles = o }
 
   some-point : 0 < r .m
   some-point = omega (arith, c .m-least)
@@ -77,24 +78,30 @@ module _ (r : Run) (e : verdict r .number ≡ 0) where
 
   -- ---- the best lines
   independent : (P : Points) → SamePoints P (means r) → (d : Drawn) → BestDue P d → StandsUnder index.Independent r d
-  independent P s (drawn.Line f) b a due = line-is (plainly index.Independent refl refl e) due (b .1 .told) (best-points s (best-line (b .1)))
+  independent P s (drawn.Line f) b a due = line-is (plainly index.Independent refl refl refl e) due (b .1 .told) (best-points s (best-line (b .1)))
   independent P s (drawn.Several h) b a due = absurd (level-single P (level s) h b)
   independent P s drawn.Improper b a due = absurd (b (points s))
 
-  lh : (P : Points) → SamePoints P (strokes r) → (d : Drawn) → BestDue P d → StandsUnder index.Lh r d
-  lh P s (drawn.Line f) b a due = line-is (plainly index.Lh refl refl e) due (b .1 .told) (best-points s (best-line (b .1)))
-  lh P s (drawn.Several h) b a due = width-is (plainly index.Lh refl refl e) due (b .1) (many-points s (many-lines (b .1)))
-  lh P s drawn.Improper b a due = absurd (b (admitted (admitted-through c lines.Strokes) s))
+  lh : (P : Points) → SamePoints P (stroke-points r) → (d : Drawn) → BestDue P d → (a : Answer) → Due index.Lh r a → ¬ (a .number ≡ 16) → as-lined d ≡ some (lined a)
+  lh P s d b a due both = go d b
+    where
+      o : Answered index.Lh r
+      o = answered (λ t. absurd t) (λ _. both) (λ t. absurd t) (due-case due)
+
+      go : (d : Drawn) → BestDue P d → as-lined d ≡ some (lined a)
+      go (drawn.Line f) b = line-is o due (b .1 .told) (best-points s (best-line (b .1)))
+      go (drawn.Several h) b = width-is o due (b .1) (many-points s (many-lines (b .1)))
+      go drawn.Improper b = absurd (b (admitted (admitted-through c lines.Strokes) s))
 
   -- limits that are rounded up are those that the search finds, so the points are the same
   limit-points-admitted : {k : ℕ → ℕ → ℕ} → LimitsOf r k → Answered index.Lhr r → Admitted (limit-points r k)
   limit-points-admitted l o = admitted (admitted-through c lines.Limits) (same-limit-points r (limits-agree r l (limits-found c (cycles-two index.Lhr tt o))))
 
-  lhr : (k : ℕ → ℕ → ℕ) → LimitsOf r k → (P : Points) → SamePoints P (limit-points r k) → (d : Drawn) → BestDue P d → (a : Answer) → Due index.Lhr r a → ¬ (a .number ≡ 13) → as-lined d ≡ some (lined a)
-  lhr k l P s d b a due more = go d b
+  lhr : (k : ℕ → ℕ → ℕ) → LimitsOf r k → (P : Points) → SamePoints P (limit-points r k) → (d : Drawn) → BestDue P d → (a : Answer) → Due index.Lhr r a → ¬ (a .number ≡ 16) → ¬ (a .number ≡ 13) → as-lined d ≡ some (lined a)
+  lhr k l P s d b a due both more = go d b
     where
       o : Answered index.Lhr r
-      o = answered (λ t. absurd t) (λ _. more) (due-case due)
+      o = answered (λ t. absurd t) (λ _. both) (λ _. more) (due-case due)
 
       go : (d : Drawn) → BestDue P d → as-lined d ≡ some (lined a)
       go (drawn.Line f) b = line-is o due (b .1 .told) (record { k = k; limits = l; holds = best-points s (best-line (b .1)) })
@@ -103,13 +110,13 @@ module _ (r : Run) (e : verdict r .number ≡ 0) where
 
   -- ---- the terminal line and the shifted one
   terminal : (P : Points) → SamePoints P (means r) → (d : Drawn) → TerminalDue P d → StandsUnder index.Terminal r d
-  terminal P s (drawn.Line f) b a due = line-is (plainly index.Terminal refl refl e) due (b .2 .told) (terminal-points s some-point (b .2 .ends), largest-points s (b .2 .largest))
+  terminal P s (drawn.Line f) b a due = line-is (plainly index.Terminal refl refl refl e) due (b .2 .told) (terminal-points s some-point (b .2 .ends), largest-points s (b .2 .largest))
   terminal P s (drawn.Several h) b a due = absurd b
   terminal P s drawn.Improper b a due = absurd (b (points s) (level s))
 
   shifted : (P : Points) → SamePoints P (means r) → (d : Drawn) → ShiftedDue P d → StandsUnder index.Shifted r d
   shifted P s (drawn.Line f) b a due =
-      line-is (plainly index.Shifted refl refl e) due (b .2 .line .told)
+      line-is (plainly index.Shifted refl refl refl e) due (b .2 .line .told)
       (record { base = b .2 .base; terminal = terminal-points s some-point (b .2 .terminal); best = best-points s (best-line (b .2 .line)) })
   shifted P s (drawn.Several h) b a due = absurd b
   shifted P s drawn.Improper b a due = absurd (b (points s) (level s))
@@ -119,7 +126,7 @@ module _ (r : Run) (e : verdict r .number ≡ 0) where
   zero P s d b a due none = go d b
     where
       o : Answered index.Zero r
-      o = answered (λ _. none) (λ t. absurd t) (due-case due)
+      o = answered (λ _. none) (λ t. absurd t) (λ t. absurd t) (due-case due)
 
       go : (d : Drawn) → ZeroDue P d → as-lined d ≡ some (lined a)
       go (drawn.Line f) b = line-is o due (b .3 .told) (best-zero s (best-line (b .3)))
@@ -127,7 +134,7 @@ module _ (r : Run) (e : verdict r .number ≡ 0) where
       go drawn.Improper b = absurd (b (points s) (level s) (points-not-negative P r (o .from-zero) s))
 
   front : (P : Points) → SamePoints P (means r) → (d : Drawn) → FrontDue P d → StandsUnder index.Front r d
-  front P s (drawn.Line f) b a due = line-is (plainly index.Front refl refl e) due (b .2 .told) (best-front s some-point (best-line (b .2)))
+  front P s (drawn.Line f) b a due = line-is (plainly index.Front refl refl refl e) due (b .2 .told) (best-front s some-point (best-line (b .2)))
   front P s (drawn.Several h) b a due = absurd b
   front P s drawn.Improper b a due = absurd (b (points s) (level s))
 
@@ -165,9 +172,10 @@ nought-nearest = some-nearest 0 1 (omega arith) .1
 rounded : {which : Index} {r : Run} {a : Answer} → Case which r a → Rounded a
 rounded (no-run _ e) = subst Rounded (sym e) nought-nearest
 rounded (below-zero _ _ e) = subst Rounded (sym e) nought-nearest
-rounded (one-cycle _ _ _ e) = subst Rounded (sym e) nought-nearest
-rounded (given _ _ _ (several _ _ _ _ _ e)) = subst Rounded (sym e) nought-nearest
-rounded (given _ _ _ (one-line _ _ _ _ _ _ s)) = s .thousandths
+rounded (one-stroke _ _ _ e) = subst Rounded (sym e) nought-nearest
+rounded (one-cycle _ _ _ _ e) = subst Rounded (sym e) nought-nearest
+rounded (given _ _ _ _ (several _ _ _ _ _ e)) = subst Rounded (sym e) nought-nearest
+rounded (given _ _ _ _ (one-line _ _ _ _ _ _ s)) = s .thousandths
 
 thousandths : (which : Index) (r : Run) (a : Answer) → Due which r a → (p : Percent) → PercentDue (a .index) p → Told (a .index) → as-thousandths p ≡ some (a .thousandths)
 thousandths which r a due p d t = ap as-thousandths (one-percent (a .index) p (Thousandths (a .thousandths)) d (t, rounded (due-case due)))
@@ -184,6 +192,6 @@ same-answers r e = record {
   lhr = lhr r e;
   thousandths = λ which a. thousandths which r a;
   lent-means = (_, (_, tabled (means r) (checked r e .m-most)));
-  lent-strokes = (_, (_, (_, tabled (strokes r) (checked r e .m-most))));
+  lent-strokes = (_, (_, (_, tabled (stroke-points r) (checked r e .m-most))));
   lent-limits = λ k l. (_, (_, (_, tabled (limit-points r k) (checked r e .m-most))));
 }

@@ -22,7 +22,7 @@ use Rattle.fit.specs.Answer.{BestDue, TerminalDue, ShiftedDue}
 use Rattle.fit.specs.declared.Drawn.{Drawn}
 use Rattle.fit.specs.declared.Drawn.the-variants as drawn
 use Rattle.pin.specs.Answer.{ZeroDue, FrontDue}
-use Rattle.bands.specs.Through.{means, strokes, limit-points}
+use Rattle.bands.specs.Through.{means, stroke-points, limit-points}
 use Rattle.bands.specs.Parts.{SamePoints}
 use Rattle.due.specs.Due.{Due}
 use Rattle.due.specs.declared.Answer.{Answer}
@@ -72,11 +72,11 @@ pub record SameAnswers (r : Run) : Type 0 where
   pub shifted : (P : Points) → SamePoints P (means r) → (d : Drawn) → ShiftedDue P d → (a : Answer) → Due index.Shifted r a → as-lined d ≡ some (lined a)
   pub zero : (P : Points) → SamePoints P (means r) → (d : Drawn) → ZeroDue P d → (a : Answer) → Due index.Zero r a → ¬ (a .number ≡ 15) → as-lined d ≡ some (lined a)
   pub front : (P : Points) → SamePoints P (means r) → (d : Drawn) → FrontDue P d → (a : Answer) → Due index.Front r a → as-lined d ≡ some (lined a)
-  pub lh : (P : Points) → SamePoints P (strokes r) → (d : Drawn) → BestDue P d → (a : Answer) → Due index.Lh r a → as-lined d ≡ some (lined a)
-  pub lhr : (k : ℕ → ℕ → ℕ) → LimitsOf r k → (P : Points) → SamePoints P (limit-points r k) → (d : Drawn) → BestDue P d → (a : Answer) → Due index.Lhr r a → ¬ (a .number ≡ 13) → as-lined d ≡ some (lined a)
+  pub lh : (P : Points) → SamePoints P (stroke-points r) → (d : Drawn) → BestDue P d → (a : Answer) → Due index.Lh r a → ¬ (a .number ≡ 16) → as-lined d ≡ some (lined a)
+  pub lhr : (k : ℕ → ℕ → ℕ) → LimitsOf r k → (P : Points) → SamePoints P (limit-points r k) → (d : Drawn) → BestDue P d → (a : Answer) → Due index.Lhr r a → ¬ (a .number ≡ 16) → ¬ (a .number ≡ 13) → as-lined d ≡ some (lined a)
   -- that the index may be told is what `index_of` of `indices` promises beside `Due`
   pub thousandths : (which : Index) (a : Answer) → Due which r a → (p : Percent) → PercentDue (a .index) p → Told (a .index) → as-thousandths p ≡ some (a .thousandths)
-  -- some arrays have these points, so that none of this is said of nothing. The means are one array, lent twice
+  -- some arrays have these points, so that none of this is said of nothing, but for `lh` and `lhr` of a run with an up stroke only, which 16 refuses. The means are one array, lent twice
   pub lent-means : (x : List ℤ) × ((t : List ℤ) × Arrays (means r) x t t)
-  pub lent-strokes : (x : List ℤ) × ((low : List ℤ) × ((high : List ℤ) × Arrays (strokes r) x low high))
+  pub lent-strokes : (x : List ℤ) × ((low : List ℤ) × ((high : List ℤ) × Arrays (stroke-points r) x low high))
   pub lent-limits : (k : ℕ → ℕ → ℕ) → LimitsOf r k → (x : List ℤ) × ((low : List ℤ) × ((high : List ℤ) × Arrays (limit-points r k) x low high))

@@ -15,8 +15,8 @@ use Rattle.run.specs.declared.Run.{Run}
 use Rattle.writer.specs.File.{file, written}
 use Rattle.writer.specs.WrittenLaws.{written-unchecked, written-short, written-full, after-full}
 use Rattle.writer.specs.declared.Written.{Written}
-use Rattle.due.specs.Due.{BelowZero, OneCycle, SeveralReach, LevelLine, at-zero, own, refusals, Due}
-use Rattle.due.specs.Cases.{quiet-checks, checks-quiet, Case, no-run, below-zero, one-cycle, given, due-case}
+use Rattle.due.specs.Due.{BelowZero, OneStroke, OneCycle, SeveralReach, LevelLine, at-zero, own, refusals, Due}
+use Rattle.due.specs.Cases.{quiet-checks, checks-quiet, Case, no-run, below-zero, one-stroke, one-cycle, given, due-case}
 use Rattle.due.specs.declared.Answer.{Answer}
 use Rattle.due.specs.declared.Index.{Index}
 use Rattle.promises.specs.Demand1.{Passed, IndexExactly, WriteExactly}
@@ -40,13 +40,13 @@ module _ (which : Index) (r : Run) where
   once : All OnePlace (refusals which r)
   once =
       all-append OnePlace cs (own which r) .1
-      (one-places (checks r), (at-zero-once 15 (BelowZero which r), (at-zero-once 13 (OneCycle which r), (at-zero-once 12 (SeveralReach which r), (at-zero-once 11 (LevelLine which r), tt)))))
+      (one-places (checks r), (at-zero-once 15 (BelowZero which r), (at-zero-once 16 (OneStroke which r), (at-zero-once 13 (OneCycle which r), (at-zero-once 12 (SeveralReach which r), (at-zero-once 11 (LevelLine which r), tt))))))
 
   -- none of the checks has such a number
   others-high : (k : ℕ) → 10 < k → All (Other k) cs
   others-high k h = ((λ e. omega arith), ((λ e. omega arith), ((λ e. omega arith), ((λ e. omega arith), tt))))
 
-  -- the conditions in front of 13, of 12 and of 11
+  -- the conditions in front of 16, of 13, of 12 and of 11
   abbrev before : List Condition → List Condition
   before more = cs ++ more
 
@@ -74,7 +74,7 @@ module _ (which : Index) (r : Run) where
 
     no-number : (a .number ≡ 0) ↔ (Passed r × All Quiet (own which r))
     no-number =
-        let u : All (Other 0) (refusals which r) = ((λ e. omega arith), ((λ e. omega arith), ((λ e. omega arith), ((λ e. omega arith), ((λ e. omega arith), ((λ e. omega arith), ((λ e. omega arith), ((λ e. omega arith), tt)))))))) in
+        let u : All (Other 0) (refusals which r) = ((λ e. omega arith), ((λ e. omega arith), ((λ e. omega arith), ((λ e. omega arith), ((λ e. omega arith), ((λ e. omega arith), ((λ e. omega arith), ((λ e. omega arith), ((λ e. omega arith), tt))))))))) in
         let x = none-exactly (refusals which r) u in (
           λ e.
               let q = all-append Quiet cs (own which r) .0 (x .0 (subst (λ (g : Given). FirstOf (refusals which r) g) (zero-told u e) (d .told))) in
@@ -91,31 +91,38 @@ module _ (which : Index) (r : Run) where
         go : Case which r a → (a .number ≡ verdict r .number) × (a .place ≡ verdict r .place)
         go (no-run _ e) = (ap (λ (b : Answer). b .number) e, ap (λ (b : Answer). b .place) e)
         go (below-zero v _ _) = absurd (n v)
-        go (one-cycle v _ _ _) = absurd (n v)
-        go (given v _ _ _) = absurd (n v)
+        go (one-stroke v _ _ _) = absurd (n v)
+        go (one-cycle v _ _ _ _) = absurd (n v)
+        go (given v _ _ _ _) = absurd (n v)
 
     pub index-exactly : IndexExactly which r a
     index-exactly =
         let c15 = at-zero 15 (BelowZero which r) in
+        let c16 = at-zero 16 (OneStroke which r) in
         let c13 = at-zero 13 (OneCycle which r) in
         let c12 = at-zero 12 (SeveralReach which r) in
         let c11 = at-zero 11 (LevelLine which r) in
-        let i15 = number-exactly 15 (BelowZero which r) [] (c13 ∷ c12 ∷ c11 ∷ []) (omega arith) tt ((λ e. omega arith), ((λ e. omega arith), ((λ e. omega arith), tt))) refl in
-        let i13 = number-exactly 13 (OneCycle which r) (c15 ∷ []) (c12 ∷ c11 ∷ []) (omega arith) ((λ e. omega arith), tt) ((λ e. omega arith), ((λ e. omega arith), tt)) refl in
-        let i12 = number-exactly 12 (SeveralReach which r) (c15 ∷ c13 ∷ []) (c11 ∷ []) (omega arith) ((λ e. omega arith), ((λ e. omega arith), tt)) ((λ e. omega arith), tt) refl in
-        let i11 = number-exactly 11 (LevelLine which r) (c15 ∷ c13 ∷ c12 ∷ []) [] (omega arith) ((λ e. omega arith), ((λ e. omega arith), ((λ e. omega arith), tt))) tt refl in
+        let i15 = number-exactly 15 (BelowZero which r) [] (c16 ∷ c13 ∷ c12 ∷ c11 ∷ []) (omega arith) tt ((λ e. omega arith), ((λ e. omega arith), ((λ e. omega arith), ((λ e. omega arith), tt)))) refl in
+        let i16 = number-exactly 16 (OneStroke which r) (c15 ∷ []) (c13 ∷ c12 ∷ c11 ∷ []) (omega arith) ((λ e. omega arith), tt) ((λ e. omega arith), ((λ e. omega arith), ((λ e. omega arith), tt))) refl in
+        let i13 = number-exactly 13 (OneCycle which r) (c15 ∷ c16 ∷ []) (c12 ∷ c11 ∷ []) (omega arith) ((λ e. omega arith), ((λ e. omega arith), tt)) ((λ e. omega arith), ((λ e. omega arith), tt)) refl in
+        let i12 = number-exactly 12 (SeveralReach which r) (c15 ∷ c16 ∷ c13 ∷ []) (c11 ∷ []) (omega arith) ((λ e. omega arith), ((λ e. omega arith), ((λ e. omega arith), tt))) ((λ e. omega arith), tt) refl in
+        let i11 = number-exactly 11 (LevelLine which r) (c15 ∷ c16 ∷ c13 ∷ c12 ∷ []) [] (omega arith) ((λ e. omega arith), ((λ e. omega arith), ((λ e. omega arith), ((λ e. omega arith), tt)))) tt refl in
         let i0 = no-number in
         record {
           fifteen = (λ e. let t = i15 .0 e in (t .0, t .2), λ t. i15 .1 (t .0, tt, t .1));
-          thirteen = (λ e. let t = i13 .0 e in (t .0, quiet-not 15 (t .1 .0), t .2), λ t. i13 .1 (t .0, (not-quiet 15 (t .1), tt), t .2));
-          twelve = (λ e. let t = i12 .0 e in (t .0, quiet-not 15 (t .1 .0), quiet-not 13 (t .1 .1 .0), t .2), λ t. i12 .1 (t .0, (not-quiet 15 (t .1), (not-quiet 13 (t .2), tt)), t .3));
+          sixteen = (λ e. let t = i16 .0 e in (t .0, quiet-not 15 (t .1 .0), t .2), λ t. i16 .1 (t .0, (not-quiet 15 (t .1), tt), t .2));
+          thirteen = (λ e. let t = i13 .0 e in (t .0, quiet-not 15 (t .1 .0), quiet-not 16 (t .1 .1 .0), t .2), λ t. i13 .1 (t .0, (not-quiet 15 (t .1), (not-quiet 16 (t .2), tt)), t .3));
+          twelve = (
+            λ e. let t = i12 .0 e in (t .0, quiet-not 15 (t .1 .0), quiet-not 16 (t .1 .1 .0), quiet-not 13 (t .1 .1 .1 .0), t .2),
+            λ t. i12 .1 (t .0, (not-quiet 15 (t .1), (not-quiet 16 (t .2), (not-quiet 13 (t .3), tt))), t .4),
+          );
           eleven = (
-            λ e. let t = i11 .0 e in (t .0, quiet-not 15 (t .1 .0), quiet-not 13 (t .1 .1 .0), quiet-not 12 (t .1 .1 .1 .0), t .2),
-            λ t. i11 .1 (t .0, (not-quiet 15 (t .1), (not-quiet 13 (t .2), (not-quiet 12 (t .3), tt))), t .4),
+            λ e. let t = i11 .0 e in (t .0, quiet-not 15 (t .1 .0), quiet-not 16 (t .1 .1 .0), quiet-not 13 (t .1 .1 .1 .0), quiet-not 12 (t .1 .1 .1 .1 .0), t .2),
+            λ t. i11 .1 (t .0, (not-quiet 15 (t .1), (not-quiet 16 (t .2), (not-quiet 13 (t .3), (not-quiet 12 (t .4), tt)))), t .5),
           );
           zero = (
-            λ e. let t = i0 .0 e in (t .0, quiet-not 15 (t .1 .0), quiet-not 13 (t .1 .1 .0), quiet-not 12 (t .1 .1 .1 .0), quiet-not 11 (t .1 .1 .1 .1 .0)),
-            λ t. i0 .1 (t .0, (not-quiet 15 (t .1), (not-quiet 13 (t .2), (not-quiet 12 (t .3), (not-quiet 11 (t .4), tt))))),
+            λ e. let t = i0 .0 e in (t .0, quiet-not 15 (t .1 .0), quiet-not 16 (t .1 .1 .0), quiet-not 13 (t .1 .1 .1 .0), quiet-not 12 (t .1 .1 .1 .1 .0), quiet-not 11 (t .1 .1 .1 .1 .1 .0)),
+            λ t. i0 .1 (t .0, (not-quiet 15 (t .1), (not-quiet 16 (t .2), (not-quiet 13 (t .3), (not-quiet 12 (t .4), (not-quiet 11 (t .5), tt)))))),
           );
           of-run = of-run;
         }

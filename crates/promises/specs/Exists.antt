@@ -19,8 +19,8 @@ use Rattle.groups.specs.Rounded.{with-found}
 use Rattle.band.specs.Line.{Line, Points}
 use Rattle.bands.specs.Through.{LargestOf, swing, scatter}
 use Rattle.bands.specs.Parts as lines
-use Rattle.due.specs.Due.{Best, Independent, Fits, Many, SeveralFit, refused, only-width, span, Stands, from-zero, BelowZero, scatters, OneCycle, Due}
-use Rattle.due.specs.Cases.{Counted, Given, several, one-line, no-run, below-zero, one-cycle, given, case-due}
+use Rattle.due.specs.Due.{Best, Independent, Fits, Many, SeveralFit, refused, only-width, span, Stands, from-zero, BelowZero, needs-down, OneStroke, scatters, OneCycle, Due}
+use Rattle.due.specs.Cases.{Counted, Given, several, one-line, no-run, below-zero, one-stroke, one-cycle, given, case-due}
 use Rattle.due.specs.DueLaws.{first-negative, below-first, not-negative}
 use Rattle.due.specs.declared.Answer.{Answer}
 use Rattle.due.specs.declared.Index.{Index}
@@ -96,7 +96,7 @@ module _ {r : Run} (c : Checked r) where
   some-given index.Zero none more = with-fitted index.Zero (λ L w z b. b) (λ w z m. m) (through-origin c (not-negative none))
   some-given index.Front none more = with-best index.Front (λ L w z b. b) (through-first c)
   some-given index.Hysteresis none more = with-other index.Hysteresis (swing r) (λ L w i l. (i, l, refl))
-  some-given index.Repeatability none more = with-other index.Repeatability (scatter (limit r)) (λ L w i l. (i, with-found c (two index.Repeatability tt more) l, refl))
+  some-given index.Repeatability none more = with-other index.Repeatability (scatter r (limit r)) (λ L w i l. (i, with-found c (two index.Repeatability tt more) l, refl))
   some-given index.Lh none more = with-fitted index.Lh (λ L w z b. b) (λ w z m. m) (some-fit c lines.Strokes)
   some-given index.Lhr none more = with-fitted index.Lhr (λ L w z b. with-found c (two index.Lhr tt more) b) (λ w z m. with-found c (two index.Lhr tt more) m) (some-fit c lines.Limits)
 
@@ -118,14 +118,20 @@ once which r (no n) _ = no (λ o. n (o .0))
 once which r (yes t) (yes e) = yes (t, e)
 once which r (yes t) (no d) = no (λ o. d (o .1))
 
+up-only : (which : Index) (r : Run) → Dec (T (needs-down which)) → Dec (r .strokes ≡ 1) → Dec (OneStroke which r)
+up-only which r (no n) _ = no (λ o. n (o .0))
+up-only which r (yes t) (yes e) = yes (t, e)
+up-only which r (yes t) (no d) = no (λ o. d (o .1))
+
 pub some-answer : (which : Index) (r : Run) → (a : Answer) × Due which r a
 some-answer which r = go (ℕ-discrete (verdict r .number) 0)
   where
-    accepted : verdict r .number ≡ 0 → Dec (BelowZero which r) → Dec (OneCycle which r) → (a : Answer) × Due which r a
-    accepted e (yes b) _ = (refused 15 0, case-due (below-zero e b refl))
-    accepted e (no n) (yes o) = (refused 13 0, case-due (one-cycle e n o refl))
-    accepted e (no n) (no more) = let g = some-given (checked r e) which n more in (g .0, case-due (given e n more (g .1)))
+    accepted : verdict r .number ≡ 0 → Dec (BelowZero which r) → Dec (OneStroke which r) → Dec (OneCycle which r) → (a : Answer) × Due which r a
+    accepted e (yes b) _ _ = (refused 15 0, case-due (below-zero e b refl))
+    accepted e (no n) (yes u) _ = (refused 16 0, case-due (one-stroke e n u refl))
+    accepted e (no n) (no u) (yes o) = (refused 13 0, case-due (one-cycle e n u o refl))
+    accepted e (no n) (no u) (no more) = let g = some-given (checked r e) which n more in (g .0, case-due (given e n u more (g .1)))
 
     go : Dec (verdict r .number ≡ 0) → (a : Answer) × Due which r a
-    go (yes e) = accepted e (below which (checked r e) (asked (from-zero which))) (once which r (asked (scatters which)) (ℕ-discrete (r .n) 1))
+    go (yes e) = accepted e (below which (checked r e) (asked (from-zero which))) (up-only which r (asked (needs-down which)) (ℕ-discrete (r .strokes) 1)) (once which r (asked (scatters which)) (ℕ-discrete (r .n) 1))
     go (no n) = (refused (verdict r .number) (verdict r .place), case-due (no-run n refl))

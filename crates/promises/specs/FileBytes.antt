@@ -4,18 +4,18 @@ use mathlib.Core.Bool.{true}
 use mathlib.Core.List.{List, [], _∷_, _++_, map}
 use Prim.Native.Nat.{ℕ, zero, suc, _<_, _≤_}
 use native.Mathlib.Omega.{arith}
-use lib.Dec.{T, ltb, ltb→lt}
+use lib.Dec.{T, ltb, ltb→lt, eqb}
 use lib.IntN.{ℤ, pos, negsuc, natAbs}
 use mir.Facts.{and-yes}
-use Rattle.whole.specs.Flags.{yes-T}
-use Rattle.run.specs.Run.{input, reading}
+use Rattle.whole.specs.Flags.{yes-T, cond-ind}
+use Rattle.run.specs.Run.{input, reading, sizes}
 use Rattle.run.specs.Places.{Place, input-at, reading-at, within, places}
 use Rattle.run.specs.PlaceLaws.{among, among-first, among-later, among-places}
 use Rattle.run.specs.Checks.{verdict}
 use Rattle.run.specs.Checked.{Checked, checked}
 use Rattle.run.specs.declared.Run.{Run}
 use Rattle.four_bytes.specs.Word.{bits, word-bytes}
-use Rattle.record.specs.Kinds.{bytes}
+use Rattle.record.specs.Kinds.{opening-code, bytes}
 use Rattle.writer.specs.File.{record-of, all-bytes, travel, file}
 use Rattle.runfile.specs.RecordLaws.{Bytes}
 
@@ -41,21 +41,26 @@ bits-most : (z : ℤ) → natAbs z ≤ 1000000 → bits z < 4294967296
 bits-most (pos n) h = omega arith
 bits-most (negsuc n) h = omega arith
 
+-- the kind of an opening is a byte
+opening-small : (strokes : ℕ) → opening-code strokes < 256
+opening-small strokes = cond-ind (eqb strokes 1) 5 1 (λ b. b < 256) (λ _. omega arith) (λ _. omega arith)
+
 -- ---- the records of a run
 module _ (r : Run) (e : verdict r .number ≡ 0) where
   c : Checked r
   c = checked r e
 
-  record-each : (p : Place) → T (within (r .m) (r .n) p) → Each (bytes (record-of r p))
+  record-each : (p : Place) → T (within (sizes r) p) → Each (bytes (record-of r p))
   record-each (input-at i) t =
       let h = ltb→lt i (r .m) t in
       let m = c .m-most in
       let v = c .inputs i h in
       (omega arith, (omega arith, word-each (bits (input r i)) (bits-most (input r i) (omega arith))))
   record-each (reading-at s k i) t =
-      let a = and-yes (ltb s 2) _ t in
+      let a = and-yes (ltb s (r .strokes)) _ t in
       let b = and-yes (ltb k (r .n)) (ltb i (r .m)) (a .1) in
-      let hs = ltb→lt s 2 (a .0) in
+      let hs = ltb→lt s (r .strokes) (a .0) in
+      let two = c .strokes-most in
       let hk = ltb→lt k (r .n) (b .0) in
       let hi = ltb→lt i (r .m) (b .1) in
       let m = c .m-most in
@@ -71,5 +76,5 @@ module _ (r : Run) (e : verdict r .number ≡ 0) where
   file-bytes =
       let m = c .m-most in
       let n = c .n-most in
-      let between : Each (all-bytes (travel r)) = places-each (places (r .m) (r .n)) (λ p h. record-each p (yes-T (sym (among-places (r .m) (r .n) p) ∙ h))) in
-      each-bytes (file r) (omega arith, (omega arith, (omega arith, each-append (all-bytes (travel r)) (4 ∷ []) between (omega arith, tt))))
+      let between : Each (all-bytes (travel r)) = places-each (places (sizes r)) (λ p h. record-each p (yes-T (sym (among-places (sizes r) p) ∙ h))) in
+      each-bytes (file r) (opening-small (r .strokes), (omega arith, (omega arith, each-append (all-bytes (travel r)) (4 ∷ []) between (omega arith, tt))))

@@ -7,19 +7,19 @@ use Prim.Native.Nat.{ℕ}
 use lib.IntN.{pos}
 use Rattle.run.specs.declared.Run.{Run}
 use Rattle.format.specs.Format.{kind-of}
-use Rattle.record.specs.Kinds.{opening-kind, point-kind, reading-kind, close-kind, run-file}
+use Rattle.record.specs.Kinds.{opening-kind, single-kind, point-kind, reading-kind, close-kind, run-file}
 use Rattle.reader.specs.Meaning.{to-close}
 use Rattle.writer.specs.File.{all-bytes, file}
 use Rattle.runfile.specs.Witness.{read, opening, points, up, close, small, good, scattered}
 
 -- ---- kinds
 -- an opening alone may stand first
-pub first-kinds : map (kind-of true run-file) (0 ∷ 1 ∷ 2 ∷ 3 ∷ 4 ∷ 5 ∷ []) ≡ none ∷ some opening-kind ∷ none ∷ none ∷ none ∷ none ∷ []
+pub first-kinds : map (kind-of true run-file) (0 ∷ 1 ∷ 2 ∷ 3 ∷ 4 ∷ 5 ∷ 6 ∷ []) ≡ none ∷ some opening-kind ∷ none ∷ none ∷ none ∷ some single-kind ∷ none ∷ []
 unfolding kind-of
 first-kinds = refl
 
--- and it alone of the four may not stand later
-pub later-kinds : map (kind-of false run-file) (0 ∷ 1 ∷ 2 ∷ 3 ∷ 4 ∷ 5 ∷ []) ≡ none ∷ none ∷ some point-kind ∷ some reading-kind ∷ some close-kind ∷ none ∷ []
+-- and of the five no opening may stand later
+pub later-kinds : map (kind-of false run-file) (0 ∷ 1 ∷ 2 ∷ 3 ∷ 4 ∷ 5 ∷ 6 ∷ []) ≡ none ∷ none ∷ some point-kind ∷ some reading-kind ∷ some close-kind ∷ none ∷ none ∷ []
 unfolding kind-of
 later-kinds = refl
 

@@ -10,9 +10,9 @@ use Rattle.whole.specs.Balance.{int, nat, opp, _⊞_, _⊟_, _⊠_}
 use Rattle.whole.specs.Poly.{var, lit, _⊕_, _⊖_, _⊗_}
 use Rattle.whole.specs.Ring.{ring}
 use Rattle.whole.specs.Size.{size-of, size-neg}
-use Rattle.run.specs.Run.{input}
+use Rattle.run.specs.Run.{input, last-stroke}
 use Rattle.run.specs.Checks.{verdict}
-use Rattle.run.specs.Checked.{Checked, checked}
+use Rattle.run.specs.Checked.{Checked, checked, first-there, last-there}
 use Rattle.run.specs.declared.Run.{Run}
 use Rattle.groups.specs.Sums.{total, up-sum, down-sum}
 use Rattle.groups.specs.Cut.{Cut, exact-limit}
@@ -24,7 +24,7 @@ use Rattle.promises.specs.Cuts.{Rounds}
 use Rattle.promises.specs.Roots.{exact-cut, limits-round}
 
 -- ---- both sides
-pub known : (r : Run) → 2 ≤ r .n → (s i : ℕ) → s < 2 → i < r .m → (t : ℤ) (q : ℕ) → 0 < q → exact-limit r s i .AtMost t q ⊎ exact-limit r s i .AtLeast t q
+pub known : (r : Run) → 2 ≤ r .n → (s i : ℕ) → s < r .strokes → i < r .m → (t : ℤ) (q : ℕ) → 0 < q → exact-limit r s i .AtMost t q ⊎ exact-limit r s i .AtLeast t q
 known r two s i hs hi = exact-cut r s i two .known
 
 -- ---- the line at zero: no sum is beyond 10,000,000 and no limit beyond 179,690
@@ -53,10 +53,10 @@ module _ (r : Run) (e : verdict r .number ≡ 0) (two : 2 ≤ r .n) where
   unfolding level
   off-level v i = ring (v ∷ pos (r .n) ∷ input r i ∷ []) (lit 1 ⊗ var 0 ⊖ var 1 ⊗ (lit 0 ⊗ var 2 ⊕ lit 0)) (var 0) tt
 
-  sized : (s i : ℕ) → s < 2 → i < r .m → natAbs (above r level (total r s i) i) ≤ 10000000
+  sized : (s i : ℕ) → s < r .strokes → i < r .m → natAbs (above r level (total r s i) i) ≤ 10000000
   sized s i hs hi = subst (λ (v : ℤ). natAbs v ≤ 10000000) (sym (off-level (total r s i) i)) (total-size c s i hs hi)
 
-  near-zero : (s i : ℕ) → s < 2 → i < r .m → (g : ℤ) → natAbs g ≤ 10000000 → Near (exact-limit r s i) g 1 (pos far) 1
+  near-zero : (s i : ℕ) → s ≤ last-stroke r → i < r .m → (g : ℤ) → natAbs g ≤ 10000000 → Near (exact-limit r s i) g 1 (pos far) 1
   near-zero s i hs hi g h = near-far (limits-round r two (limits-found c two) s i hs hi) (limit-most r s i) g h
 
   pub some-kept : (L : Line) × ((w : ℕ) × Keeps r (exact-limit r) L (pos w) 1)
@@ -66,8 +66,8 @@ module _ (r : Run) (e : verdict r .number ≡ 0) (two : 2 ≤ r .n) where
     (
       far,
       record {
-        up = λ i h. near-zero 0 i (omega arith) h (above r level (up-sum r i) i) (sized 0 i (omega arith) h);
-        down = λ i h. near-zero 1 i (omega arith) h (negℤ (above r level (down-sum r i) i)) (subst (λ (n : ℕ). n ≤ 10000000) (sym (size-neg (above r level (down-sum r i) i))) (sized 1 i (omega arith) h));
+        up = λ i h. near-zero 0 i (omega arith) h (above r level (up-sum r i) i) (sized 0 i (first-there c) h);
+        down = λ i h. near-zero (last-stroke r) i (omega arith) h (negℤ (above r level (down-sum r i) i)) (subst (λ (n : ℕ). n ≤ 10000000) (sym (size-neg (above r level (down-sum r i) i))) (sized (last-stroke r) i (last-there c) h));
       },
     ),
   )

@@ -25,6 +25,7 @@ pub mod Certified
 pub mod Ascii
 pub mod PaperSheet
 pub mod MoreSheets
+pub mod UpOnly
 pub mod Edges
 pub mod FileVectors
 pub mod ReportedLaws

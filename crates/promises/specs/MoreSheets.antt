@@ -9,7 +9,7 @@ use Rattle.whole.specs.Every.{every, first-not}
 use Rattle.plain.specs.Digits.{digits}
 use Rattle.units.specs.Units.{no-input, an-input}
 use Rattle.table.specs.Table.{given}
-use Rattle.run.specs.Places.{rising, falling, cycles-places}
+use Rattle.run.specs.Places.{rising, falling, cycle-places, cycles-places}
 use Rattle.run.specs.Sample.{filled, cycles, written-out, sample}
 use Rattle.run.specs.Checks.{fine, verdict}
 use Rattle.run.specs.declared.Run.{Run}
@@ -32,8 +32,12 @@ use Rattle.promises.specs.Certified.{sample-limits}
 use Rattle.promises.specs.Ascii.{printed}
 use Rattle.promises.specs.PaperSheet.{sheet-of-run}
 
+-- a run of two strokes is not one of an up stroke only
+two-not-one : _≡_ {A = ℕ} 2 1 → ⊥
+two-not-one e = omega arith
+
 -- an answer that a certificate certifies
-by : {r : Run} {i : Index} {a : Answer} (c : Certificate i) → T (certifies (record { run = r; which = i; answer = a }) c) → Due i r a
+pub by : {r : Run} {i : Index} {a : Answer} (c : Certificate i) → T (certifies (record { run = r; which = i; answer = a }) c) → Due i r a
 by {r} {i} {a} c t = certified (record { run = r; which = i; answer = a }) c t
 
 -- ---- one cycle: inputs 0, 10, 20, readings 0, 100, 200 up and 0, 112, 200 down
@@ -59,16 +63,16 @@ single-due index.Independent = by (one-line 3 1 (best (down 0 1 2))) tt
 single-due index.Zero = by (one-line 4 1 (zero 1 2)) tt
 single-due index.Front = by (one-line 4 1 (front 1 2)) tt
 single-due index.Hysteresis = by (one-line 12 1 (swings 1 (down 0 1 2))) tt
-single-due index.Repeatability = case-due (one-cycle refl (λ b. b .asked) (tt, refl) refl)
+single-due index.Repeatability = case-due (one-cycle refl (λ b. b .asked) (λ s. two-not-one (s .1)) (tt, refl) refl)
 single-due index.Lh = by (one-line 6 1 (lh (down 0 1 2))) tt
-single-due index.Lhr = case-due (one-cycle refl (λ b. b .asked) (tt, refl) refl)
+single-due index.Lhr = case-due (one-cycle refl (λ b. b .asked) (λ s. two-not-one (s .1)) (tt, refl) refl)
 
 single-passes : verdict single ≡ fine
 unfolding filled cycles written-out every first-not given
 single-passes = refl
 
 single-trimmed : trimmed single ≡ single
-unfolding filled cycles written-out rising falling cycles-places number-at
+unfolding filled cycles written-out rising falling cycle-places cycles-places number-at
 single-trimmed = refl
 
 abbrev single-lines : List ℕ
@@ -96,7 +100,7 @@ single-sheet = subst (SheetDue (file single)) single-is (sheet-of-run single sin
 
 -- ---- a negative input: the paper's run with the inputs -10, 0, 10, so that every line has an offset that is ten slopes higher
 abbrev moved : Run
-moved = record { m = 3; n = 2; x = filled 11 no-input (map an-input (negsuc 9 ∷ pos 0 ∷ pos 10 ∷ [])); y = sample .y }
+moved = record { m = 3; n = 2; strokes = 2; x = filled 11 no-input (map an-input (negsuc 9 ∷ pos 0 ∷ pos 10 ∷ [])); y = sample .y }
 
 abbrev moved-answer : Index → Answer
 moved-answer index.Terminal = fields 0 (whole 97) (whole 100) (whole 1002) (over (pos 97) 2000) 4850
@@ -126,7 +130,7 @@ unfolding filled cycles written-out every first-not given
 moved-passes = refl
 
 moved-trimmed : trimmed moved ≡ moved
-unfolding filled cycles written-out rising falling cycles-places number-at
+unfolding filled cycles written-out rising falling cycle-places cycles-places number-at
 moved-trimmed = refl
 
 abbrev moved-lines : List ℕ

@@ -18,7 +18,7 @@ use Rattle.band.specs.Shift.{wide-is, shift-wide}
 use Rattle.bands.specs.Admitted.{proper-means}
 use Rattle.due.specs.Due.{Fits, Stands, Due}
 use Rattle.due.specs.OneFit.{fits-once}
-use Rattle.due.specs.Cases.{several, one-line, Case, no-run, below-zero, one-cycle, given, due-case}
+use Rattle.due.specs.Cases.{several, one-line, Case, no-run, below-zero, one-stroke, one-cycle, given, due-case}
 use Rattle.due.specs.declared.Answer.{Answer}
 use Rattle.due.specs.declared.Index.the-variants as index
 use Rattle.promises.specs.Ends.{base, base-terminal, lo, hi, range, shifted, shifted-best}
@@ -58,9 +58,10 @@ module _ (r : Run) (e : verdict r .number ≡ 0) where
   shifted-case : {a : Answer} → Case index.Shifted r a → Moved r a
   shifted-case (no-run n _) = absurd (n e)
   shifted-case (below-zero _ b _) = absurd (b .asked)
-  shifted-case (one-cycle _ _ o _) = absurd (o .0)
-  shifted-case (given _ _ _ (several w z _ m _ _)) = absurd m
-  shifted-case (given _ _ _ (one-line L w z some f _ s)) = moved-by L w z some f s
+  shifted-case (one-stroke _ _ o _) = absurd (o .0)
+  shifted-case (one-cycle _ _ _ o _) = absurd (o .0)
+  shifted-case (given _ _ _ _ (several w z _ m _ _)) = absurd m
+  shifted-case (given _ _ _ _ (one-line L w z some f _ s)) = moved-by L w z some f s
 
   pub the-shifted : (a : Answer) → Due index.Shifted r a → Moved r a
   the-shifted a d = shifted-case (due-case d)

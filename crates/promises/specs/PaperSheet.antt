@@ -8,7 +8,7 @@ use lib.ListN.{length, getD}
 use Rattle.whole.specs.Every.{every, first-not}
 use Rattle.plain.specs.Digits.{digits}
 use Rattle.table.specs.Table.{given}
-use Rattle.run.specs.Places.{rising, falling, cycles-places}
+use Rattle.run.specs.Places.{rising, falling, cycle-places, cycles-places}
 use Rattle.run.specs.Sample.{filled, cycles, written-out, sample}
 use Rattle.run.specs.Checks.{fine, verdict}
 use Rattle.run.specs.declared.Run.{Run}
@@ -29,7 +29,7 @@ use Rattle.promises.specs.Figures.{Figure, figures}
 use Rattle.promises.specs.Certified.{Each, figures-due}
 use Rattle.promises.specs.Ascii.{printed}
 
--- ---- any run that no check refuses, with zeros beyond its points and cycles: the sheet of its file has the lines of the answers that are due for it
+-- ---- any run that no check refuses, with zeros beyond its points, cycles and strokes: the sheet of its file has the lines of the answers that are due for it
 pub sheet-of-run : (r : Run) → verdict r ≡ fine → trimmed r ≡ r → (A : Index → Answer) → ((i : Index) → Due i r (A i)) → SheetDue (file r) (lines (r .m) (r .n) A)
 sheet-of-run r v t A d =
     let e : meaning (file r) ≡ read.given r = ap as-answer (trip r v) ∙ ap read.given t in
@@ -41,7 +41,7 @@ unfolding filled cycles written-out every first-not given
 passes = refl
 
 trimmed-already : trimmed sample ≡ sample
-unfolding filled cycles written-out rising falling cycles-places number-at
+unfolding filled cycles written-out rising falling cycle-places cycles-places number-at
 trimmed-already = refl
 
 -- ---- its answers: nine rows of the table of figures

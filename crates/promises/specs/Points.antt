@@ -12,7 +12,7 @@ use Rattle.whole.specs.Poly.{E, var, neg, _⊕_, _⊖_, _⊗_}
 use Rattle.whole.specs.Ring.{ring}
 use Rattle.whole.specs.Sign.{positive-nat, positive-mul, nat-positive}
 use Rattle.whole.specs.Size.{size-neg}
-use Rattle.run.specs.Run.{input}
+use Rattle.run.specs.Run.{input, last-stroke}
 use Rattle.run.specs.declared.Run.{Run}
 use Rattle.groups.specs.Sums.{up-sum, down-sum}
 use Rattle.groups.specs.Cut.{Cut}
@@ -46,7 +46,7 @@ abbrev low : Run → (k : ℕ → ℕ → ℕ) → ℕ → ℤ
 low r k i = up-sum r i -ℤ pos (k 0 i)
 
 abbrev high : Run → (k : ℕ → ℕ → ℕ) → ℕ → ℤ
-high r k i = down-sum r i +ℤ pos (k 1 i)
+high r k i = down-sum r i +ℤ pos (k (last-stroke r) i)
 
 abbrev aboveE : E → E
 aboveE v = offE (var 0) (var 1) (var 2) (var 3) (var 4) v
@@ -61,12 +61,12 @@ module _ (r : Run) (L : Line) (i : ℕ) (v : ℤ) (k : ℕ) where
   more-off : natAbs (above r L (v +ℤ pos k) i) ≡ natAbs (negℤ (above r L v i) -ℤ pos (L .q) *ℤ pos k)
   more-off = sym (size-neg (above r L (v +ℤ pos k) i)) ∙ ap natAbs (ring ρ (neg (aboveE (var 5 ⊕ var 6))) (neg (aboveE (var 5)) ⊖ var 0 ⊗ var 6) tt)
 
-module _ (r : Run) {limit : ℕ → ℕ → Cut} {k : ℕ → ℕ → ℕ} (R : (s i : ℕ) → s < 2 → i < r .m → Rounds (limit s i) (k s i)) (L : Line) (w z : ℕ) (hz : 0 < z) where
+module _ (r : Run) {limit : ℕ → ℕ → Cut} {k : ℕ → ℕ → ℕ} (R : (s i : ℕ) → s ≤ last-stroke r → i < r .m → Rounds (limit s i) (k s i)) (L : Line) (w z : ℕ) (hz : 0 < z) where
   -- a line within w/z of the rounded points keeps every exact one closer than n·w/z + 1 sum units
   pub kept : Within (limit-points r k) L w z → KeepsCloser r limit L (pos (r .n) *ℤ pos w +ℤ pos z) z
   kept W = record {
     up = λ i h. closer (R 0 i (omega arith) h) (above r L (up-sum r i) i) (L .q) (r .n * w) z (L .some) hz (moved (less-off r L i (up-sum r i) (k 0 i)) (both i h .0));
-    down = λ i h. closer (R 1 i (omega arith) h) (negℤ (above r L (down-sum r i) i)) (L .q) (r .n * w) z (L .some) hz (moved (more-off r L i (down-sum r i) (k 1 i)) (both i h .1));
+    down = λ i h. closer (R (last-stroke r) i (omega arith) h) (negℤ (above r L (down-sum r i) i)) (L .q) (r .n * w) z (L .some) hz (moved (more-off r L i (down-sum r i) (k (last-stroke r) i)) (both i h .1));
   }
     where
       both : (i : ℕ) → i < r .m → Bound r L w z i (low r k i) × Bound r L w z i (high r k i)
@@ -92,7 +92,7 @@ module _ (r : Run) {limit : ℕ → ℕ → Cut} {k : ℕ → ℕ → ℕ} (R : 
       up i h = moved (less-off r L i (up-sum r i) (k 0 i)) (strictly (R 0 i (omega arith) h) (above r L (up-sum r i) i) (L .q) (r .n * w) z (L .some) hz (K .up i h))
 
       down : (i : ℕ) → i < r .m → natAbs (above r L (high r k i) i) * z < w * d
-      down i h = moved (more-off r L i (down-sum r i) (k 1 i)) (strictly (R 1 i (omega arith) h) (negℤ (above r L (down-sum r i) i)) (L .q) (r .n * w) z (L .some) hz (K .down i h))
+      down i h = moved (more-off r L i (down-sum r i) (k (last-stroke r) i)) (strictly (R (last-stroke r) i (omega arith) h) (negℤ (above r L (down-sum r i) i)) (L .q) (r .n * w) z (L .some) hz (K .down i h))
 
       tighter : (v : ℕ) → v * z < w * d → v * (z * d) ≤ (w * d - 1) * d
       tighter v h = let l : v * z ≤ w * d - 1 = omega arith in omega (arith, mul-le-mul-right d l)

@@ -13,7 +13,7 @@ use Rattle.band.specs.Same.{through, same-passing}
 use Rattle.fit.specs.Scaled.{Alike}
 use Rattle.bands.specs.Through.{means}
 use Rattle.due.specs.Due.{Best, Stands, Due}
-use Rattle.due.specs.Cases.{several, one-line, Case, no-run, below-zero, one-cycle, given, due-case}
+use Rattle.due.specs.Cases.{several, one-line, Case, no-run, below-zero, one-stroke, one-cycle, given, due-case}
 use Rattle.due.specs.DueLaws.{best-same}
 use Rattle.due.specs.declared.Answer.{Answer}
 use Rattle.due.specs.declared.Index.the-variants as index
@@ -50,9 +50,10 @@ module _ (r : Run) (e : verdict r .number ≡ 0) (a : Answer) where
   independent-case : Case index.Independent r a → (L : Line) → Reports a L → Told All L
   independent-case (no-run n _) L t = absurd (n e)
   independent-case (below-zero _ b _) L t = absurd (b .asked)
-  independent-case (one-cycle _ _ o _) L t = absurd (o .0)
-  independent-case (given _ _ _ (several w z _ m _ _)) L t = absurd m
-  independent-case (given _ _ _ (one-line M w z some best _ s)) L t = reported-best some s t tt best
+  independent-case (one-stroke _ _ o _) L t = absurd (o .0)
+  independent-case (one-cycle _ _ _ o _) L t = absurd (o .0)
+  independent-case (given _ _ _ _ (several w z _ m _ _)) L t = absurd m
+  independent-case (given _ _ _ _ (one-line M w z some best _ s)) L t = reported-best some s t tt best
 
   pub the-independent : Due index.Independent r a → (L : Line) → Reports a L → Told All L
   the-independent d = independent-case (due-case d)
@@ -60,9 +61,10 @@ module _ (r : Run) (e : verdict r .number ≡ 0) (a : Answer) where
   zero-case : Case index.Zero r a → (a .number ≡ 12 → ⊥) → (a .number ≡ 15 → ⊥) → (L : Line) → Reports a L → Told (Zero (means r)) L
   zero-case (no-run n _) many below L t = absurd (n e)
   zero-case (below-zero _ _ q) many below L t = absurd (below (ap (λ (a : Answer). a .number) q))
-  zero-case (one-cycle _ _ o _) many below L t = absurd (o .0)
-  zero-case (given _ _ _ (several w z _ _ _ q)) many below L t = absurd (many (ap (λ (a : Answer). a .number) q))
-  zero-case (given _ _ _ (one-line M w z some best _ s)) many below L t = reported-passing some s t (pos 0) (pos 0) best
+  zero-case (one-stroke _ _ o _) many below L t = absurd (o .0)
+  zero-case (one-cycle _ _ _ o _) many below L t = absurd (o .0)
+  zero-case (given _ _ _ _ (several w z _ _ _ q)) many below L t = absurd (many (ap (λ (a : Answer). a .number) q))
+  zero-case (given _ _ _ _ (one-line M w z some best _ s)) many below L t = reported-passing some s t (pos 0) (pos 0) best
 
   pub the-zero : Due index.Zero r a → (a .number ≡ 12 → ⊥) → (a .number ≡ 15 → ⊥) → (L : Line) → Reports a L → Told (Zero (means r)) L
   the-zero d = zero-case (due-case d)
@@ -70,9 +72,10 @@ module _ (r : Run) (e : verdict r .number ≡ 0) (a : Answer) where
   front-case : Case index.Front r a → (L : Line) → Reports a L → Told (Front (means r)) L
   front-case (no-run n _) L t = absurd (n e)
   front-case (below-zero _ b _) L t = absurd (b .asked)
-  front-case (one-cycle _ _ o _) L t = absurd (o .0)
-  front-case (given _ _ _ (several w z _ m _ _)) L t = absurd m
-  front-case (given _ _ _ (one-line M w z some best _ s)) L t = reported-passing some s t (means r .x 0) (means r .low 0) best
+  front-case (one-stroke _ _ o _) L t = absurd (o .0)
+  front-case (one-cycle _ _ _ o _) L t = absurd (o .0)
+  front-case (given _ _ _ _ (several w z _ m _ _)) L t = absurd m
+  front-case (given _ _ _ _ (one-line M w z some best _ s)) L t = reported-passing some s t (means r .x 0) (means r .low 0) best
 
   pub the-front : Due index.Front r a → (L : Line) → Reports a L → Told (Front (means r)) L
   the-front d = front-case (due-case d)

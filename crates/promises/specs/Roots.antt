@@ -10,6 +10,7 @@ use Rattle.whole.specs.Poly.{var, lit, _⊕_, _⊖_, _⊗_}
 use Rattle.whole.specs.Ring.{ring}
 use Rattle.whole.specs.Order.{le-by, le-of, lt-of, mul-le}
 use Rattle.whole.specs.Sign.{NonNeg, weaken, Positive, le-sign, sign-le, lt-sign, le-trans, le-or-gt, nonneg-add, positive-add, nonneg-mul, positive-mul, cancel-le, cert, nonneg-nat, positive-nat}
+use Rattle.run.specs.Run.{last-stroke}
 use Rattle.run.specs.declared.Run.{Run}
 use Rattle.groups.specs.Sums.{bessel, factor}
 use Rattle.groups.specs.Cut.{root, exact-limit, LimitsOf}
@@ -79,5 +80,5 @@ module _ (e : ℤ) (f : ℕ) (some : 0 < f) where
 pub exact-cut : (r : Run) (s i : ℕ) → 2 ≤ r .n → IsCut (exact-limit r s i)
 exact-cut r s i two = root-cut (pos (factor (r .n) * factor (r .n) * r .n) *ℤ bessel r s i) (1000000 * (r .n - 1)) (omega arith)
 
-pub limits-round : (r : Run) {k : ℕ → ℕ → ℕ} → 2 ≤ r .n → LimitsOf r k → (s i : ℕ) → s < 2 → i < r .m → Rounds (exact-limit r s i) (k s i)
+pub limits-round : (r : Run) {k : ℕ → ℕ → ℕ} → 2 ≤ r .n → LimitsOf r k → (s i : ℕ) → s ≤ last-stroke r → i < r .m → Rounds (exact-limit r s i) (k s i)
 limits-round r two l s i hs hi = record { cut = exact-cut r s i two; up = l s i hs hi }

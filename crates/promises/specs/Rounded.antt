@@ -12,7 +12,7 @@ use Rattle.band.specs.Same.{same-within}
 use Rattle.fit.specs.Scaled.{within-alike, least-alike}
 use Rattle.bands.specs.Through.{limit-points}
 use Rattle.due.specs.Due.{Due}
-use Rattle.due.specs.Cases.{Given, several, one-line, Case, no-run, below-zero, one-cycle, given, due-case}
+use Rattle.due.specs.Cases.{Given, several, one-line, Case, no-run, below-zero, one-stroke, one-cycle, given, due-case}
 use Rattle.due.specs.declared.Answer.{Answer}
 use Rattle.due.specs.declared.Index.the-variants as index
 use Rattle.promises.specs.Exact.{Keeps, KeepsCloser}
@@ -48,26 +48,27 @@ told-given (one-line L w z h b c s) = record {
   reports = λ d. (L, record { slope = s .slope .worth (L .some); offset = s .offset .worth (L .some) });
 }
 
-told : {r : Run} {a : Answer} → verdict r .number ≡ 0 → 2 ≤ r .n → Case index.Lhr r a → Told r a
-told e two (no-run h f) = absurd (h e)
-told e two (below-zero v b f) = absurd (b .asked)
-told e two (one-cycle v n o f) = let one = o .1 in absurd (omega arith)
-told e two (given v n o g) = told-given g
+told : {r : Run} {a : Answer} → verdict r .number ≡ 0 → r .strokes ≡ 2 → 2 ≤ r .n → Case index.Lhr r a → Told r a
+told e back two (no-run h f) = absurd (h e)
+told e back two (below-zero v b f) = absurd (b .asked)
+told e back two (one-stroke v n u f) = let one = u .1 in absurd (omega arith)
+told e back two (one-cycle v n u o f) = let one = o .1 in absurd (omega arith)
+told e back two (given v n u o g) = told-given g
 
-module _ (r : Run) (e : verdict r .number ≡ 0) (two : 2 ≤ r .n) (a : Answer) (due : Due index.Lhr r a) where
+module _ (r : Run) (e : verdict r .number ≡ 0) (back : r .strokes ≡ 2) (two : 2 ≤ r .n) (a : Answer) (due : Due index.Lhr r a) where
   pub lost : (L : Line) → Keeps r (exact-limit r) L (pos (r .n) *ℤ a .width .num -ℤ pos (a .width .den)) (a .width .den) → ⊥
   lost L K =
-      let t = told e two (due-case due) in
+      let t = told e back two (due-case due) in
       let c = checked r e in
       P.lost r (limits-round r two (t .limits)) L (natAbs (a .width .num)) (a .width .den) (t .least .some) (omega (arith, c .m-least)) (omega arith) (t .least)
       (subst (λ (w : ℤ). Keeps r (exact-limit r) L (pos (r .n) *ℤ w -ℤ pos (a .width .den)) (a .width .den)) (sym (t .sign)) K)
 
   pub kept-closer : (a .number ≡ 12 → ⊥) → (L : Line) → Reports a L → KeepsCloser r (exact-limit r) L (pos (r .n) *ℤ a .width .num +ℤ pos (a .width .den)) (a .width .den)
   kept-closer d L s =
-      let t = told e two (due-case due) in
+      let t = told e back two (due-case due) in
       subst (λ (w : ℤ). KeepsCloser r (exact-limit r) L (pos (r .n) *ℤ w +ℤ pos (a .width .den)) (a .width .den)) (t .sign)
       (P.kept r (limits-round r two (t .limits)) L (natAbs (a .width .num)) (a .width .den) (t .least .some) (t .line d L s))
 
   -- where several lines do not reach it, a line is reported
   pub some-reported : (a .number ≡ 12 → ⊥) → (L : Line) × Reports a L
-  some-reported = told e two (due-case due) .reports
+  some-reported = told e back two (due-case due) .reports

@@ -9,6 +9,8 @@ use borrow.Author.Tests.{ltb-true}
 use lib.IntN.{ℤ}
 use lib.ListN.{length, drop}
 use Rattle.units.specs.Units.{an-input, a-reading}
+use Rattle.limits.specs.declared.Sizes.{Sizes}
+use Rattle.run.specs.Run.{sizes}
 use Rattle.run.specs.Places.{Place, input-at, reading-at, within, places}
 use Rattle.run.specs.PlaceLaws.{and-true, among, among-first, among-later, among-places}
 use Rattle.run.specs.Checks.{verdict}
@@ -26,17 +28,17 @@ records-same f g (p ∷ ps) h = ap₂ _∷_ (h p (among-first p ps)) (records-sa
 
 module _ {r q : Run} (e : SameWithin r q) where
   -- the record at a place of the run
-  record-same : (p : Place) → within (q .m) (q .n) p ≡ true → record-of r p ≡ record-of q p
+  record-same : (p : Place) → within (sizes q) p ≡ true → record-of r p ≡ record-of q p
   record-same (input-at i) k = ap (λ (x : ℤ). Point i (an-input x)) (e .inputs i (ltb-true i (q .m) k))
   record-same (reading-at s c i) k =
       let a = and-true k in
       let b = and-true (a .1) in
-      ap (λ (y : ℤ). Value s c i (a-reading y)) (e .readings s c i (ltb-true s 2 (a .0)) (ltb-true c (q .n) (b .0)) (ltb-true i (q .m) (b .1)))
+      ap (λ (y : ℤ). Value s c i (a-reading y)) (e .readings s c i (ltb-true s (q .strokes) (a .0)) (ltb-true c (q .n) (b .0)) (ltb-true i (q .m) (b .1)))
 
   pub same-file : file r ≡ file q
   same-file =
-      (λ j. framed (e .m j) (e .n j) (map (record-of r) (places (e .m j) (e .n j))))
-      ∙ ap (framed (q .m) (q .n)) (records-same (record-of r) (record-of q) (places (q .m) (q .n)) (λ p k. record-same p (sym (among-places (q .m) (q .n) p) ∙ k)))
+      (λ j. let z : Sizes = record { m = e .m j; n = e .n j; strokes = e .strokes j } in framed z (map (record-of r) (places z)))
+      ∙ ap (framed (sizes q)) (records-same (record-of r) (record-of q) (places (sizes q)) (λ p k. record-same p (sym (among-places (sizes q) p) ∙ k)))
 
   -- ---- written into a buffer, where no check refuses the runs
   module _ (v : verdict r .number ≡ 0) (v′ : verdict q .number ≡ 0) (buffer : List ℕ) where

@@ -12,7 +12,7 @@ use Rattle.run.specs.Checks.{verdict}
 use Rattle.run.specs.WrittenOut.{length-table, table-at}
 use Rattle.run.specs.declared.Run.{Run}
 use Rattle.reader.specs.Meaning.{meaning}
-use Rattle.averages.specs.Averages.{sum, unit, MeanAt, Means, AveragesDue, no-run, told}
+use Rattle.averages.specs.Averages.{sum, unit, reach, MeanAt, Means, AveragesDue, no-run, told}
 use Rattle.averages.specs.Averages as averages
 use Rattle.averages.specs.declared.Averages.{Averages}
 use Rattle.averages.specs.declared.Mean.{Mean}
@@ -23,9 +23,9 @@ use Rattle.promises.specs.Exists.{some-answer}
 
 -- ---- averages
 some-mean : (which : Mean) (r : Run) (i : ℕ) → (f : Fraction) × MeanAt which r i f
-some-mean which r i = go (decLt i (r .m))
+some-mean which r i = go (decLt i (reach which r))
   where
-    go : Dec (i < r .m) → (f : Fraction) × MeanAt which r i f
+    go : Dec (i < reach which r) → (f : Fraction) × MeanAt which r i f
     go (yes h) = let f = some-made (sum which r i) (unit which (r .n)) in (f .0, record { mean = λ _. f .1; beyond = λ l. absurd (omega arith) })
     go (no h) = (nought, record { mean = λ l. absurd (h l); beyond = λ _. refl })
 

@@ -131,7 +131,7 @@ pinned-many P x v A B =
 
 -- ---- limits
 abbrev pub smallests : Run → (k : ℕ → ℕ → ℕ) → Bool
-smallests r k = every (r .m) (λ i. smallest r 0 i (k 0 i) && smallest r 1 i (k 1 i))
+smallests r k = every (r .m) (λ i. every (r .strokes) (λ s. smallest r s i (k s i)))
 
 -- ---- answers
 -- the line of the answer's slope and offset

@@ -20,7 +20,7 @@ fn put_sentence(out: &mut [u8; 831], at: usize, number: u8) -> usize
         41 => put_bytes(out, at, b"no line tells points and cycles\n"),
         42 => put_bytes(out, at, b"this line is not understood\n"),
         43 => put_bytes(out, at, b"3 to 11 points and 1 to 10 cycles\n"),
-        44 => put_bytes(out, at, b"the run has no such point or cycle\n"),
+        44 => put_bytes(out, at, b"no such point or cycle or stroke here\n"),
         45 => put_bytes(out, at, b"this number is beyond its limits\n"),
         46 => put_bytes(out, at, b"this was told before\n"),
         47 => put_bytes(out, at, b"a point or a reading is missing\n"),

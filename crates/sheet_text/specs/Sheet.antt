@@ -1,4 +1,4 @@
--- The sheet of a byte string given as a run file (the paper, "Figures to meet", the printed sheet; request C-11). Definitions only.
+-- The sheet of a byte string given as a run file (the paper, "Figures to meet", the printed sheet; requests C-11 and C-13). Definitions only.
 use mathlib.Core.Path.{_≡_}
 use mathlib.Core.Bool.{cond}
 use mathlib.Core.List.{List, [], _∷_, _++_}
@@ -38,7 +38,7 @@ name index.Repeatability = 114 ∷ 101 ∷ 112 ∷ 101 ∷ 97 ∷ 116 ∷ 97 ∷
 name index.Lh = 108 ∷ 104 ∷ []
 name index.Lhr = 108 ∷ 104 ∷ 114 ∷ []
 
--- `points`, m, `cycles`, n
+-- `points`, m, `cycles`, n, however many strokes the run has
 abbrev pub head-line : (m n : ℕ) → List ℕ
 head-line m n = points-word ++ (decimal m ++ (cycles-word ++ (decimal n ++ (line-feed ∷ []))))
 

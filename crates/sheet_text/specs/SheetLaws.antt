@@ -68,7 +68,7 @@ module _ {s : List ℕ} {x y : List ℤ} {t : Taken} (e : ReadInto s x y t) wher
   pub sheet-refused : {l : List ℕ} → (t .number ≡ 0 → ⊥) → l ≡ grown [] (refused-line (t .number) (t .place)) → SheetDue s l
   sheet-refused {l} n f = refused (λ z. n (e .number ∙ z)) (f ∙ take-all longest (refused-line (t .number) (t .place)) (fits-refused (t .number) (t .place)) ∙ ap₂ refused-line (e .number) (e .place))
 
-  pub sheet-accepted : (p : List ℕ) (k : ℕ) → t .number ≡ 0 → RunText (lent (t .m) (t .n) x y) p k → SheetDue s (take k p)
+  pub sheet-accepted : (p : List ℕ) (k : ℕ) → t .number ≡ 0 → RunText (lent (t .sizes) x y) p k → SheetDue s (take k p)
   sheet-accepted p k z f =
       let g = subst (λ (r : Run). RunText r p k) (sym (e .run z)) f in
       accepted (sym (e .number) ∙ z) (g .answers) (g .due) (g .is)

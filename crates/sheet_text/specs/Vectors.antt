@@ -42,3 +42,13 @@ refused-index = refl
 refused-last : last-line (record { number = 13; place = 0; width = nought; slope = nought; offset = nought; index = nought; thousandths = 0 }) ≡ 108 ∷ 105 ∷ 110 ∷ 101 ∷ 32 ∷ 114 ∷ 101 ∷ 102 ∷ 117 ∷ 115 ∷ 101 ∷ 100 ∷ 32 ∷ 49 ∷ 51 ∷ 10 ∷ []
 unfolding digits
 refused-last = refl
+
+-- "hysteresis refused 16\n", of a run with an up stroke only
+refused-stroke : index-line index.Hysteresis (record { number = 16; place = 0; width = nought; slope = nought; offset = nought; index = nought; thousandths = 0 }) ≡ 104 ∷ 121 ∷ 115 ∷ 116 ∷ 101 ∷ 114 ∷ 101 ∷ 115 ∷ 105 ∷ 115 ∷ 32 ∷ 114 ∷ 101 ∷ 102 ∷ 117 ∷ 115 ∷ 101 ∷ 100 ∷ 32 ∷ 49 ∷ 54 ∷ 10 ∷ []
+unfolding digits
+refused-stroke = refl
+
+-- "line refused 16\n"
+refused-last-stroke : last-line (record { number = 16; place = 0; width = nought; slope = nought; offset = nought; index = nought; thousandths = 0 }) ≡ 108 ∷ 105 ∷ 110 ∷ 101 ∷ 32 ∷ 114 ∷ 101 ∷ 102 ∷ 117 ∷ 115 ∷ 101 ∷ 100 ∷ 32 ∷ 49 ∷ 54 ∷ 10 ∷ []
+unfolding digits
+refused-last-stroke = refl

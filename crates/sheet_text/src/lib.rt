@@ -13,6 +13,7 @@ ghost use Rattle.sheet_text.specs.Grown.{shown-line, ruled-line, RunText
 use due::Index;
 use due::Ruled;
 use due::Shown;
+use limits::Sizes;
 use plain::Printed;
 use plain::put_byte;
 use plain::put_bytes;
@@ -101,11 +102,13 @@ fn put_head(out: &mut [u8; 831], at: usize, m: usize, n: usize) -> usize
 }
 
 // The eleven lines of a run that no check refuses.
-fn put_run(out: &mut [u8; 831], m: usize, n: usize, x: &[i64; 11], y: &[i64; 220]) -> usize
-    requires { ⌜ (length (now out) ≡ 831) × (verdict (lent m n (now x) (now y)) .number ≡ 0) ⌝ }
-    ensures { λ k. ⌜ RunText (lent m n (now (x .entry)) (now (y .entry))) (now (out .exit)) k ⌝ }
+fn put_run(out: &mut [u8; 831], z: Sizes, x: &[i64; 11], y: &[i64; 220]) -> usize
+    requires { ⌜ (length (now out) ≡ 831) × (verdict (lent z (now x) (now y)) .number ≡ 0) ⌝ }
+    ensures { λ k. ⌜ RunText (lent z (now (x .entry)) (now (y .entry))) (now (out .exit)) k ⌝ }
 {
-    let q = indices::nine_over(m, n, x, y);
+    let m = z.m;
+    let n = z.n;
+    let q = indices::nine_over(z, x, y);
     let head = put_head(out, 0, m, n);
     let terminal = put_index(out, head, Index::Terminal, q.terminal);
     let shifted = put_index(out, terminal, Index::Shifted, q.shifted);
@@ -133,7 +136,8 @@ fn put_file(out: &mut [u8; 831], file: &[u8]) -> usize
     if t.number != 0 {
         return plain::put_refused(out, 0, t.number, t.place);
     }
-    put_run(out, t.m, t.n, &x, &y)
+    let sizes = t.sizes;
+    put_run(out, sizes, &x, &y)
 }
 
 // The line of a file that is refused at its opening, at place 0 by a number of one digit: of 15 bytes, so that such a file waits for no larger array.

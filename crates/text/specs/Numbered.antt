@@ -57,7 +57,7 @@ first-of f t step void k (h ∷ hs) j e = rw (step k h hs) (go (t h) refl j e (f
 opening-step : (k : ℕ) (h : Said) (hs : List Said) → first-label (gathered opening-at k (h ∷ hs)) ≡ cond (opens h) k (first-label (gathered opening-at (suc k) hs))
 unfolding gathered
 opening-step k Nothing hs = refl
-opening-step k (Item (Opening m n)) hs = refl
+opening-step k (Item (Opening z)) hs = refl
 opening-step k (Item (Point i x)) hs = refl
 opening-step k (Item (Value s c i y)) hs = refl
 opening-step k (Item Close) hs = refl

@@ -38,7 +38,7 @@ Enters h r = (e : Entry) × (r ≡ entry e) × Gives h (e .place) (e .number)
 
 pub opening-brings : Brings opening-at Opens
 opening-brings k Nothing = inl refl
-opening-brings k (Item (Opening m n)) = inr (opening (record { m = m; n = n }), refl, (record { m = m; n = n }, refl))
+opening-brings k (Item (Opening z)) = inr (opening z, refl, (z, refl))
 opening-brings k (Item (Point i x)) = inl refl
 opening-brings k (Item (Value s c i y)) = inl refl
 opening-brings k (Item Close) = inl refl
@@ -46,7 +46,7 @@ opening-brings k Unclear = inl refl
 
 pub entry-brings : Brings entry-at Enters
 entry-brings k Nothing = inl refl
-entry-brings k (Item (Opening m n)) = inl refl
+entry-brings k (Item (Opening z)) = inl refl
 entry-brings k (Item (Point i x)) = let e : Entry = record { place = input-at i; number = x .count } in inr (entry e, refl, (e, refl, (x, refl, refl)))
 entry-brings k (Item (Value s c i y)) = let e : Entry = record { place = reading-at s c i; number = y .count } in inr (entry e, refl, (e, refl, (y, refl, refl)))
 entry-brings k (Item Close) = inl refl

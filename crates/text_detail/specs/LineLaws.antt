@@ -7,13 +7,14 @@ use native.Mathlib.Numerals.{add-one}
 use lib.IntN.{ℤ}
 use lib.ListN.{length, getD, List·getD-map}
 use Rattle.words.specs.Words.{lines, words}
+use Rattle.run.specs.Run.{no-sizes}
 use Rattle.run.specs.Places.{Place, input-at, reading-at, same, within}
 use Rattle.records.specs.Record.{Entry, close, Labelled, at-label, its, unlabelled, sizes-of, entries-of, entries}
 use Rattle.record.specs.declared.Record.the-variants.{Opening, Point, Value, Close}
 use Rattle.spoken.specs.Said.{says}
 use Rattle.spoken.specs.declared.Said.{Said}
 use Rattle.spoken.specs.declared.Said.the-variants.{Nothing, Item, Unclear}
-use Rattle.detail.specs.Detail.{label-at, told-where}
+use Rattle.detail.specs.Detail.{largest, label-at, told-where}
 use Rattle.detail.specs.Marks.{Marked}
 use Rattle.text.specs.Text.{heard, opening-at, entry-at, gathered, text}
 use Rattle.text.specs.RecordLines.{Opens, Enters, opening-brings, entry-brings, gathered-passed}
@@ -43,7 +44,7 @@ module _ (p : Place) where
   unfolding gathered label-at
   label-items l k [] = refl
   label-items l k (Nothing ∷ hs) = label-items l (suc k) hs
-  label-items l k (Item (Opening m n) ∷ hs) = label-items l (suc k) hs
+  label-items l k (Item (Opening z) ∷ hs) = label-items l (suc k) hs
   label-items l k (Item (Point i x) ∷ hs) = ap (λ (q : ℕ). cond (same p (input-at i)) k q) (label-items l (suc k) hs)
   label-items l k (Item (Value s c i y) ∷ hs) = ap (λ (q : ℕ). cond (same p (reading-at s c i)) k q) (label-items l (suc k) hs)
   label-items l k (Item Close ∷ hs) = label-items l (suc k) hs
@@ -53,7 +54,7 @@ module _ (p : Place) where
   label-text hs = sym (label-items (length hs) 1 hs) ∙ sym (label-opened 1 hs (gathered entry-at 1 hs ++ (at-label (length hs) close ∷ [])))
 
   pub where-text : (hs : List Said) → told-where p (items 1 hs) ≡ told-where p (text hs .records)
-  where-text hs = ap (λ (q : ℕ). cond (within 11 10 p) q 0) (label-text hs)
+  where-text hs = ap (λ (q : ℕ). cond (within largest p) q 0) (label-text hs)
 
 -- ---- nor is there a point or a reading among them
 entries-opened : (k : ℕ) (hs : List Said) (xs : List Labelled) → entries (gathered opening-at k hs ++ xs) ≡ entries xs
@@ -64,7 +65,7 @@ entries-items : (l k : ℕ) (hs : List Said) → entries (gathered entry-at k hs
 unfolding gathered entries-of
 entries-items l k [] = refl
 entries-items l k (Nothing ∷ hs) = entries-items l (suc k) hs
-entries-items l k (Item (Opening m n) ∷ hs) = entries-items l (suc k) hs
+entries-items l k (Item (Opening z) ∷ hs) = entries-items l (suc k) hs
 entries-items l k (Item (Point i x) ∷ hs) = ap (λ (es : List Entry). record { place = input-at i; number = x .count } ∷ es) (entries-items l (suc k) hs)
 entries-items l k (Item (Value s c i y) ∷ hs) = ap (λ (es : List Entry). record { place = reading-at s c i; number = y .count } ∷ es) (entries-items l (suc k) hs)
 entries-items l k (Item Close ∷ hs) = entries-items l (suc k) hs
@@ -74,16 +75,16 @@ pub entries-text : (hs : List Said) → entries (items 1 hs) ≡ entries-of (its
 entries-text hs = sym (entries-items (length hs) 1 hs) ∙ sym (entries-opened 1 hs (gathered entry-at 1 hs ++ (at-label (length hs) close ∷ [])))
 
 -- ---- the sizes are those of the first line that opens
-none-sized : (l k : ℕ) (hs : List Said) → sizes-of (unlabelled (gathered entry-at k hs ++ (at-label l close ∷ []))) ≡ record { m = 0; n = 0 }
+none-sized : (l k : ℕ) (hs : List Said) → sizes-of (unlabelled (gathered entry-at k hs ++ (at-label l close ∷ []))) ≡ no-sizes
 unfolding sizes-of
 none-sized l k hs = gathered-passed entry-at Enters entry-brings (λ xs. sizes-of (unlabelled xs)) (λ k h r xs e. rw (e .1)) k hs (at-label l close ∷ [])
 
-sizes-opened : (k : ℕ) (hs : List Said) (xs : List Labelled) → sizes-of (unlabelled xs) ≡ record { m = 0; n = 0 }
+sizes-opened : (k : ℕ) (hs : List Said) (xs : List Labelled) → sizes-of (unlabelled xs) ≡ no-sizes
     → sizes-of (unlabelled (gathered opening-at k hs)) ≡ sizes-of (unlabelled (gathered opening-at k hs ++ xs))
 unfolding gathered sizes-of
 sizes-opened k [] xs e = sym e
 sizes-opened k (Nothing ∷ hs) xs e = sizes-opened (suc k) hs xs e
-sizes-opened k (Item (Opening m n) ∷ hs) xs e = refl
+sizes-opened k (Item (Opening z) ∷ hs) xs e = refl
 sizes-opened k (Item (Point i x) ∷ hs) xs e = sizes-opened (suc k) hs xs e
 sizes-opened k (Item (Value s c i y) ∷ hs) xs e = sizes-opened (suc k) hs xs e
 sizes-opened k (Item Close ∷ hs) xs e = sizes-opened (suc k) hs xs e

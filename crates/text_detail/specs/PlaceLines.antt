@@ -56,7 +56,7 @@ place-line hs p t = let xs = text hs .records in entry-line hs (at-label (label-
 -- ---- the first line that gives a place
 abbrev pub giving : Place → Said → Bool
 giving p Nothing = false
-giving p (Item (Opening m n)) = false
+giving p (Item (Opening z)) = false
 giving p (Item (Point i x)) = same p (input-at i)
 giving p (Item (Value s c i y)) = same p (reading-at s c i)
 giving p (Item Close) = false
@@ -68,7 +68,7 @@ gives-giving h (reading-at s c i) v g = ap (giving (reading-at s c i)) (g .1) �
 
 pub giving-gives : (p : Place) (h : Said) → giving p h ≡ true → (v : ℤ) × Gives h p v
 giving-gives p Nothing e = absurd (apart (sym e))
-giving-gives p (Item (Opening m n)) e = absurd (apart (sym e))
+giving-gives p (Item (Opening z)) e = absurd (apart (sym e))
 giving-gives p (Item (Point i x)) e = subst (λ (q : Place). (v : ℤ) × Gives (Item (Point i x)) q v) (sym (same-equal p (input-at i) e)) (x .count, (x, refl, refl))
 giving-gives p (Item (Value s c i y)) e = subst (λ (q : Place). (v : ℤ) × Gives (Item (Value s c i y)) q v) (sym (same-equal p (reading-at s c i) e)) (y .count, (y, refl, refl))
 giving-gives p (Item Close) e = absurd (apart (sym e))
@@ -77,7 +77,7 @@ giving-gives p Unclear e = absurd (apart (sym e))
 label-step : (p : Place) (k : ℕ) (h : Said) (hs : List Said) → label-at p (items k (h ∷ hs)) ≡ cond (giving p h) k (label-at p (items (suc k) hs))
 unfolding gathered label-at
 label-step p k Nothing hs = refl
-label-step p k (Item (Opening m n)) hs = refl
+label-step p k (Item (Opening z)) hs = refl
 label-step p k (Item (Point i x)) hs = refl
 label-step p k (Item (Value s c i y)) hs = refl
 label-step p k (Item Close) hs = refl
@@ -89,7 +89,7 @@ first-giving p hs = subst (FirstOf (giving p) 1 hs) (label-text p hs) (first-of 
 -- ---- the line of a point
 point-giving : (i : ℕ) (h : Said) → gives-point i h ≡ giving (input-at i) h
 point-giving i Nothing = refl
-point-giving i (Item (Opening m n)) = refl
+point-giving i (Item (Opening z)) = refl
 point-giving i (Item (Point j x)) = refl
 point-giving i (Item (Value s c j y)) = refl
 point-giving i (Item Close) = refl

@@ -1,6 +1,6 @@
 -- What the functions that look at the arrays tell is told of the text: the line of a record, the place that is missing, the two readings that lie apart.
 use mathlib.Core.Path.{_≡_, sym, _∙_, ap, ap₂, subst}
-use mathlib.Core.Bool.{cond, _&&_}
+use mathlib.Core.Bool.{_&&_}
 use mathlib.Core.List.{List, []}
 use Prim.Native.Nat.{ℕ, _-_, _<_, _≤_}
 use native.Mathlib.Omega.{arith}
@@ -12,14 +12,13 @@ use mir.Facts.{yes-and}
 use Rattle.whole.specs.Every.{every-by}
 use Rattle.words.specs.Words.{lines}
 use Rattle.limits.specs.Limits.{in-y}
-use Rattle.limits.specs.Laws.{sizes-within}
+use Rattle.limits.specs.Laws.{Fair, sizes-within}
 use Rattle.table.specs.Table.{given-at}
-use Rattle.run.specs.Run.{reading, group}
+use Rattle.run.specs.Run.{reading, sizes, group}
 use Rattle.run.specs.Places.{reading-at, places}
-use Rattle.run.specs.Limits.{stroke-calm}
 use Rattle.run.specs.Laws.{StrokeReady, reading-lent}
 use Rattle.records.specs.Record.{Sizes, Entry, its, sizes-of, entries-of, entries, number-at}
-use Rattle.records.specs.Meaning.{fair, run-of}
+use Rattle.records.specs.Meaning.{fair, run-by, run-of}
 use Rattle.records.specs.Framed.{run-at}
 use Rattle.records.specs.Closed.{clean-fits, closed-there}
 use Rattle.record.specs.declared.Record.{Record}
@@ -27,7 +26,8 @@ use Rattle.record.specs.Kinds.{as-record}
 use Rattle.spoken.specs.Said.{says}
 use Rattle.spoken.specs.declared.Said.{Said}
 use Rattle.spoken.specs.declared.Said.the-variants.{Nothing}
-use Rattle.detail.specs.Detail.{first-lacking, lacking, apart-in}
+use Rattle.intake.specs.Picture.{Room, fair-room}
+use Rattle.detail.specs.Detail.{first-lacking, lacking}
 use Rattle.detail.specs.Marks.{Marked, LabelOf, Missing, FarApart}
 use Rattle.detail.specs.Arrays.{reading-count}
 use Rattle.detail.specs.declared.Detail.{Detail}
@@ -59,67 +59,61 @@ line-told {hs} {r} {labels} {y} pic l = record { is = λ e same-record. l .is (i
 
 -- ---- by what the survey tells
 module _ {hs : List Said} {t : Survey} (tells : Tells hs t) where
-  m-told : t .m ≡ sizes-of (its (text hs)) .m
-  m-told = tells .m-is ∙ ap (λ (z : Sizes). z .m) (sizes-text hs)
-
-  n-told : t .n ≡ sizes-of (its (text hs)) .n
-  n-told = tells .n-is ∙ ap (λ (z : Sizes). z .n) (sizes-text hs)
+  sizes-told : t .sizes ≡ sizes-of (its (text hs))
+  sizes-told = tells .sizes-is ∙ sizes-text hs
 
   -- ---- what is missing
-  pub sizes-most : FairlyOpened hs → (t .m ≤ 11) × (t .n ≤ 10)
-  sizes-most f =
-      let z = sizes-of (its (text hs)) in
-      let most = sizes-within {m = z .m} {n = z .n} (f .sized) in
-      (omega (arith, m-told, most .1), omega (arith, n-told, most .3))
+  pub sizes-room : FairlyOpened hs → Room (t .sizes)
+  sizes-room f = fair-room (t .sizes) (subst (λ (z : Sizes). T (fair z)) (sym sizes-told) (f .sized))
 
-  pub lacks-told : {labels : List ℕ} {y : List ℤ} {d : Detail} → Marked (items 1 hs) labels y → Missing (t .m) (t .n) labels d → d ≡ lacks (text hs)
+  pub lacks-told : {labels : List ℕ} {y : List ℤ} {d : Detail} → Marked (items 1 hs) labels y → Missing (t .sizes) labels d → d ≡ lacks (text hs)
   lacks-told {labels} {y} pic is =
       is .is (items 1 hs) y pic
-      ∙ ap₂ (λ (m n : ℕ). lacking (first-lacking (places m n) (entries (items 1 hs)))) m-told n-told
-      ∙ ap (λ (es : List Entry). lacking (first-lacking (places (sizes-of (its (text hs)) .m) (sizes-of (its (text hs)) .n)) es)) (entries-text hs)
+      ∙ ap₂ (λ (z : Sizes) (es : List Entry). lacking (first-lacking (places z) es)) sizes-told (entries-text hs)
 
   -- ---- what lies apart
   module _ {i : ℕ} (sc : Scattered hs i) {labels : List ℕ} {y : List ℤ} (pic : Marked (items 1 hs) labels y) where
-    abbrev z : Sizes
-    z = sizes-of (its (text hs))
+    fair-sizes : T (fair (t .sizes))
+    fair-sizes = subst (λ (z : Sizes). T (fair z)) (sym sizes-told) (closed-there (its (text hs)) (sc .no-fault) (sc .closes) .0)
 
-    fair-sizes : T (fair z)
-    fair-sizes = closed-there (its (text hs)) (sc .no-fault) (sc .closes) .0
+    most : Fair (t .sizes)
+    most = sizes-within (t .sizes) fair-sizes
 
-    few-points : i < 11
-    few-points = omega (arith, sc .of-run, sizes-within {m = z .m} {n = z .n} fair-sizes .1)
-
-    few-cycles : t .n ≤ 10
-    few-cycles = omega (arith, n-told, sizes-within {m = z .m} {n = z .n} fair-sizes .3)
+    of-sizes : i < t .sizes .m
+    of-sizes = subst (λ (z : Sizes). i < z .m) (sym sizes-told) (sc .of-run)
 
     -- the arrays have the readings of the text
-    count : (s c : ℕ) → s < 2 → c < t .n → reading (group (t .n) y) s c i ≡ number-at (reading-at s c i) (entries-of (its (text hs)))
+    count : (s c : ℕ) → s < 2 → c < t .sizes .n → reading (group (t .sizes .n) y) s c i ≡ number-at (reading-at s c i) (entries-of (its (text hs)))
     count s c a b =
-        reading-lent 0 (t .n) [] y s c i
-        ∙ reading-count pic s c i a (omega (arith, few-cycles)) few-points
+        reading-lent (sizes (group (t .sizes .n) y)) [] y s c i
+        ∙ reading-count pic s c i a (omega (arith, most .n-most)) (omega (arith, of-sizes, most .m-most))
         ∙ ap (number-at (reading-at s c i)) (entries-text hs)
 
-    stroke : (s : ℕ) → s < 2 → StrokeReady (group (t .n) y) s i
+    stroke : (s : ℕ) → s < 2 → StrokeReady (group (t .sizes .n) y) s i
     stroke s a = record {
-      sized = record { m-most = omega arith; n-most = few-cycles };
+      sized = record { m-most = omega arith; n-most = most .n-most; strokes-most = omega arith };
       stroke = a;
-      point = few-points;
-      limits = every-by (t .n) (λ c. in-y (reading (group (t .n) y) s c i)) (λ c b.
+      point = omega (arith, of-sizes, most .m-most);
+      limits = every-by (t .sizes .n) (λ c. in-y (reading (group (t .sizes .n) y) s c i)) (λ c b.
           subst (λ (v : ℤ). T (in-y v)) (sym (count s c a b)) (clean-fits (its (text hs)) (sc .no-fault) (reading-at s c i)));
     }
 
-    pub both-ready : StrokeReady (group (t .n) y) 0 i × StrokeReady (group (t .n) y) 1 i
-    both-ready = (stroke 0 (omega arith), stroke 1 (omega arith))
+    -- each stroke of the run may be looked at
+    pub strokes-fit : (t .sizes .strokes ≤ 2) × ((s : ℕ) → s < t .sizes .strokes → StrokeReady (group (t .sizes .n) y) s i)
+    strokes-fit = (most .strokes-most, λ s a. stroke s (omega (arith, most .strokes-most)))
 
-    in-text : (s : ℕ) → let r = run-of (its (text hs)) in apart-in r (items 1 hs) s i ≡ apart-in r (text hs .records) s i
-    in-text s = ap₂ Apart (label-text _ hs) (label-text _ hs)
+    -- the run has the readings of the text too
+    told-reading : (s c : ℕ) → s < t .sizes .strokes → c < t .sizes .n → reading (run-of (its (text hs))) s c i ≡ number-at (reading-at s c i) (entries (items 1 hs))
+    told-reading s c a b =
+        let z = t .sizes in
+        ap (λ (z : Sizes). reading (run-by z (λ p. number-at p (entries-of (its (text hs))))) s c i) (sym sizes-told)
+        ∙ run-at z (λ p. number-at p (entries-of (its (text hs)))) fair-sizes (reading-at s c i)
+        (yes-and (ltb s (z .strokes)) (ltb c (z .n) && ltb i (z .m)) (lt→ltb s (z .strokes) a)
+        (yes-and (ltb c (z .n)) (ltb i (z .m)) (lt→ltb c (z .n) b) (lt→ltb i (z .m) of-sizes)))
+        ∙ ap (number-at (reading-at s c i)) (sym (entries-text hs))
 
-    pub apart-told : {d : Detail} → FarApart (t .n) i labels y d → d ≡ told-apart hs i
+    pub apart-told : {d : Detail} → FarApart (t .sizes .n) (t .sizes .strokes) i labels y d → d ≡ told-apart hs i
     apart-told f =
         let r = run-of (its (text hs)) in
-        f .is (items 1 hs) r pic (sym n-told) (sc .lie-apart) (λ s c a b.
-        run-at z (λ p. number-at p (entries-of (its (text hs)))) fair-sizes (reading-at s c i)
-        (yes-and (ltb s 2) (ltb c (z .n) && ltb i (z .m)) (lt→ltb s 2 a)
-        (yes-and (ltb c (z .n)) (ltb i (z .m)) (lt→ltb c (z .n) (omega (arith, n-told))) (lt→ltb i (z .m) (sc .of-run))))
-        ∙ ap (number-at (reading-at s c i)) (sym (entries-text hs)))
-        ∙ ap₂ (λ (a b : Detail). cond (stroke-calm r 0 i) a b) (in-text 1) (in-text 0)
+        f .is (items 1 hs) r pic (ap (λ (z : Sizes). z .n) (sym sizes-told)) (ap (λ (z : Sizes). z .strokes) (sym sizes-told)) (sc .lie-apart) told-reading
+        ∙ ap₂ Apart (label-text _ hs) (label-text _ hs)

@@ -71,7 +71,7 @@ fn earlier(text: &[u8], r: Record) -> Detail
     ensures { λ d. ⌜ d ≡ T.told-before (heard (now (text .entry))) (Said.Item r) ⌝ }
 {
     match r {
-        Record::Opening { m: _, n: _ } => Detail::Earlier {
+        Record::Opening { sizes: _ } => Detail::Earlier {
             label: survey::look_over(text).opening,
         },
         Record::Point { index: _, x: _ } => Detail::Earlier {
@@ -109,7 +109,8 @@ fn lacks(text: &[u8]) -> Detail
     let mut labels = [0; 231];
     let mut y = [0; 220];
     mark_lines(text, &mut labels, &mut y);
-    detail::missing(t.m, t.n, &labels)
+    let z = t.sizes;
+    detail::missing(z, &labels)
 }
 
 // The two lines of readings at point i that lie apart.
@@ -121,7 +122,8 @@ fn apart_at(text: &[u8], i: usize) -> Detail
     let mut labels = [0; 231];
     let mut y = [0; 220];
     mark_lines(text, &mut labels, &mut y);
-    detail::apart(t.n, &labels, &y, i)
+    let z = t.sizes;
+    detail::apart(z.n, z.strokes, &labels, &y, i)
 }
 
 fn apart_by(text: &[u8], r: Record) -> Detail
@@ -129,7 +131,7 @@ fn apart_by(text: &[u8], r: Record) -> Detail
     ensures { λ d. ⌜ d ≡ T.lies-apart (S.text (heard (now (text .entry)))) (Said.Item r) ⌝ }
 {
     match r {
-        Record::Opening { m: _, n: _ } => Detail::Nothing,
+        Record::Opening { sizes: _ } => Detail::Nothing,
         Record::Point { index, x: _ } => apart_at(text, index),
         Record::Value {
             stroke: _,

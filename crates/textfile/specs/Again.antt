@@ -3,21 +3,21 @@ use mathlib.Core.Path.{_≡_, refl, sym, _∙_, ap, subst}
 use mathlib.Core.Bool.{Bool, true, _&&_}
 use mathlib.Core.Logic.{inl, inr}
 use mathlib.Core.List.{List, _++_, _∷_, List·Memᴰ, List·Memᴰ·head, Memᴰ·append-left, Memᴰ·append-right}
-use Prim.Native.Nat.{ℕ, _+_, _-_, _<_, _≤_}
+use Prim.Native.Nat.{ℕ, _+_, _-_, _<_}
 use native.Mathlib.Omega.{arith}
 use borrow.Author.Tests.{lt-ltb}
 use lib.Dec.{T, ltb, ltb→lt}
 use lib.IntN.{ℤ}
 use lib.ListN.{getD}
 use mir.Facts.{and-yes}
-use Rattle.whole.specs.Flags.{T-yes, apart, cond-yes}
-use Rattle.limits.specs.Laws.{sizes-within}
+use Rattle.whole.specs.Flags.{apart, cond-yes}
+use Rattle.limits.specs.Laws.{Fair, sizes-within}
 use Rattle.run.specs.Places.{Place, input-at, reading-at, within}
-use Rattle.records.specs.Record.{entry, Labelled, at-label, its, sizes-of}
+use Rattle.records.specs.Record.{Sizes, entry, Labelled, at-label, its, sizes-of}
 use Rattle.record.specs.declared.Record.the-variants.{Opening, Point, Value, Close}
 use Rattle.spoken.specs.declared.Said.{Said}
 use Rattle.spoken.specs.declared.Said.the-variants.{Nothing, Item, Unclear}
-use Rattle.detail.specs.Detail.{label-at, told-where}
+use Rattle.detail.specs.Detail.{largest, label-at, told-where}
 use Rattle.detail.specs.Again.{Again, six-again}
 use Rattle.detail.specs.declared.Detail.the-variants.{Earlier}
 use Rattle.text.specs.Text.{heard, opens, text}
@@ -30,9 +30,9 @@ use Rattle.text_detail.specs.Told.{own-known, Told, by-lines, by-none-open, by-
 use Rattle.textfile.specs.More.{Refused, Alike, both-open, same-input, same-reading, ToldFirst}
 
 -- ---- lines of a kind
-opens-is : (h : Said) → opens h ≡ true → (m : ℕ) × (n : ℕ) × (h ≡ Item (Opening m n))
+opens-is : (h : Said) → opens h ≡ true → (z : Sizes) × (h ≡ Item (Opening z))
 opens-is Nothing e = absurd (apart (sym e))
-opens-is (Item (Opening m n)) e = (m, n, refl)
+opens-is (Item (Opening z)) e = (z, refl)
 opens-is (Item (Point i x)) e = absurd (apart (sym e))
 opens-is (Item (Value s c i y)) e = absurd (apart (sym e))
 opens-is (Item Close) e = absurd (apart (sym e))
@@ -40,7 +40,7 @@ opens-is Unclear e = absurd (apart (sym e))
 
 -- two that open, and two that give the same place, are alike
 opens-alike : (h g : Said) → opens h ≡ true → opens g ≡ true → Alike h g
-opens-alike h g a b = rw (opens-is h a .2, opens-is g b .2) both-open
+opens-alike h g a b = rw (opens-is h a .1, opens-is g b .1) both-open
 
 gives-alike : (h g : Said) (p : Place) (u v : ℤ) → Gives h p u → Gives g p v → Alike h g
 gives-alike h g (input-at i) u v a b = rw (a .1, b .1) same-input
@@ -66,14 +66,15 @@ told-place hs h (input-at i) v g = ap (told-before hs) (g .1)
 told-place hs h (reading-at s c i) v g = ap (told-before hs) (g .1)
 
 -- a place of a run is one of the largest
-within-most : (m n : ℕ) → m ≤ 11 → n ≤ 10 → (p : Place) → T (within m n p) → within 11 10 p ≡ true
-within-most m n a b (input-at i) w = let h = ltb→lt i m w in lt-ltb i 11 (omega arith)
-within-most m n a b (reading-at s c i) w =
-    let u = and-yes (ltb s 2) (ltb c n && ltb i m) w in
-    let v = and-yes (ltb c n) (ltb i m) (u .1) in
-    let hc = ltb→lt c n (v .0) in
-    let hi = ltb→lt i m (v .1) in
-    rw (T-yes {b = ltb s 2} (u .0), lt-ltb c 10 (omega arith), lt-ltb i 11 (omega arith))
+within-most : (z : Sizes) → Fair z → (p : Place) → T (within z p) → within largest p ≡ true
+within-most z f (input-at i) w = lt-ltb i 11 (omega (arith, ltb→lt i (z .m) w, f .m-most))
+within-most z f (reading-at s c i) w =
+    let u = and-yes (ltb s (z .strokes)) (ltb c (z .n) && ltb i (z .m)) w in
+    let v = and-yes (ltb c (z .n)) (ltb i (z .m)) (u .1) in
+    let hs : s < 2 = omega (arith, ltb→lt s (z .strokes) (u .0), f .strokes-most) in
+    let hc : c < 10 = omega (arith, ltb→lt c (z .n) (v .0), f .n-most) in
+    let hi : i < 11 = omega (arith, ltb→lt i (z .m) (v .1), f .m-most) in
+    rw (lt-ltb s 2 hs, lt-ltb c 10 hc, lt-ltb i 11 hi)
 
 module _ (s : List ℕ) (l : ℕ) (e : Refused s 46 l) where
   abbrev hs : List Said
@@ -100,8 +101,7 @@ module _ (s : List ℕ) (l : ℕ) (e : Refused s 46 l) where
       let d = a .what in
       let p = d .place in
       let z = sizes-of (its (text hs)) in
-      let most = sizes-within {m = z .m} {n = z .n} (a .fair-sizes) in
-      let told-is : label-at p xs ≡ told-where p xs = cond-yes 0 (within-most (z .m) (z .n) (most .1) (most .3) p (a .inside-whole)) refl in
+      let told-is : label-at p xs ≡ told-where p xs = cond-yes 0 (within-most z (sizes-within z (a .fair-sizes)) p (a .inside-whole)) refl in
       let among : (y : Labelled) → List·Memᴰ y (a .before ++ (a .it ∷ a .after)) → List·Memᴰ y xs = λ y m. subst (λ (ys : List Labelled). List·Memᴰ y ys) (sym (a .stands)) m in
       let y = at-label (label-at p (a .before)) (entry (first-at p (a .before))) in
       let m = stands-first p (a .before) (a .earlier) in
@@ -119,7 +119,7 @@ module _ (s : List ℕ) (l : ℕ) (e : Refused s 46 l) where
   first-by (by-lines (opens-again n f (inl o))) = absurd (apart (sym o))
   first-by (by-lines (opens-again n f (inr b))) =
       let o = line-said f in
-      first-told opens (opening-line hs) (first-opening hs) opens-alike alike-opens (ap (told-before hs) (opens-is (nth-said hs l) o .2)) o (b .0) (b .1) (b .2)
+      first-told opens (opening-line hs) (first-opening hs) opens-alike alike-opens (ap (told-before hs) (opens-is (nth-said hs l) o .1)) o (b .0) (b .1) (b .2)
   first-by (by-none-open n) = absurd (omega arith)
   first-by (by-records r) = let w = own-known r 6 refl in first-there (subst (Again (text hs .records)) (w .2) (six-again (text hs) (w .0) (w .1)))
 

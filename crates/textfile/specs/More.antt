@@ -13,7 +13,7 @@ use Rattle.units.specs.declared.Input.{Input}
 use Rattle.units.specs.declared.Reading.{Reading}
 use Rattle.table.specs.Table.{given-at, given}
 use Rattle.run.specs.Places.{Place, places}
-use Rattle.records.specs.Record.{its, sizes-of, entries-of}
+use Rattle.records.specs.Record.{Sizes, its, sizes-of, entries-of}
 use Rattle.record.specs.declared.Record.the-variants.{Opening, Point, Value}
 use Rattle.words.specs.Words.{words}
 use Rattle.spoken.specs.Said.{said, nth, odd-word}
@@ -40,7 +40,7 @@ pub record OddWord (s : List ℕ) (l : ℕ) : Type 0 where
 
 -- 46: two lines open, or they give the same place
 pub data Alike : Said → Said → Type 0 where
-  both-open : {m n k l : ℕ} → Alike (Item (Opening m n)) (Item (Opening k l))
+  both-open : {z y : Sizes} → Alike (Item (Opening z)) (Item (Opening y))
   same-input : {i : ℕ} {x z : Input} → Alike (Item (Point i x)) (Item (Point i z))
   same-reading : {t c i : ℕ} {y z : Reading} → Alike (Item (Value t c i y)) (Item (Value t c i z))
 
@@ -57,7 +57,7 @@ pub record ToldFirst (s : List ℕ) (l : ℕ) : Type 0 where
 pub record FirstMissing (s : List ℕ) : Type 0 where
   pub place : Place
   pub told : body-detail s ≡ lacking (some place)
-  pub gap : let rs = its (text (heard s)) in Gap (places (sizes-of rs .m) (sizes-of rs .n)) (entries-of rs) place
+  pub gap : let rs = its (text (heard s)) in Gap (places (sizes-of rs)) (entries-of rs) place
 
 -- 50: the two lines told give readings of one stroke at the point of the line named, the first more than 10,000 above the second
 pub record TwoApart (s : List ℕ) (l : ℕ) : Type 0 where

@@ -1,6 +1,6 @@
 -- 50: the two lines told give readings of one stroke at the point of the line named, the first more than 10,000 above the second.
-use mathlib.Core.Path.{_≡_, refl, sym, _∙_, ap, subst}
-use mathlib.Core.Bool.{Bool, true, false, not, cond, _&&_}
+use mathlib.Core.Path.{_≡_, sym, _∙_, ap, subst}
+use mathlib.Core.Bool.{not, _&&_}
 use mathlib.Core.List.{List, []}
 use Prim.Native.Nat.{ℕ, _<_}
 use native.Mathlib.Omega.{arith}
@@ -8,17 +8,15 @@ use lib.Dec.{T, ltb, lt→ltb}
 use lib.IntN.{ℤ, pos, _-ℤ_}
 use lib.Signed.{leZ}
 use mir.Facts.{yes-and}
-use Rattle.run.specs.Run.{reading}
+use Rattle.run.specs.Run.{reading, sizes}
 use Rattle.run.specs.Places.{input-at, reading-at, within}
-use Rattle.run.specs.Limits.{stroke-calm}
-use Rattle.run.specs.declared.Run.{Run}
-use Rattle.records.specs.Record.{Labelled, its, sizes-of, entries-of, closed, number-at}
+use Rattle.records.specs.Record.{its, sizes-of, entries-of, closed, number-at}
 use Rattle.records.specs.Meaning.{run-of}
 use Rattle.records.specs.Sound.{clean}
 use Rattle.records.specs.Framed.{run-at}
 use Rattle.spoken.specs.declared.Said.{Said}
-use Rattle.detail.specs.Detail.{label-at, above, below, apart-in, apart-at}
-use Rattle.detail.specs.Apart.{LieApart, stroke-apart, far-apart}
+use Rattle.detail.specs.Detail.{label-at, above, below, stroke-apart}
+use Rattle.detail.specs.Apart.{LieApart, far-apart}
 use Rattle.records.specs.ByNumber.{ten-scattered}
 use Rattle.records.specs.Closed.{closed-there}
 use Rattle.text.specs.Text.{heard, text, point-line}
@@ -29,23 +27,15 @@ use Rattle.text_detail.specs.PlaceLines.{place-line, point-said}
 use Rattle.text_detail.specs.Told.{told-records-of}
 use Rattle.textfile.specs.More.{Refused, TwoApart}
 
--- the two that are told are those of the stroke whose readings lie apart
-apart-of : (r : Run) (xs : List Labelled) (i : ℕ) → apart-at r xs i ≡ apart-in r xs (stroke-apart r i) i
-apart-of r xs i = go (stroke-calm r 0 i)
-  where
-    go : (b : Bool) → cond b (apart-in r xs 1 i) (apart-in r xs 0 i) ≡ apart-in r xs (cond b 1 0) i
-    go true = refl
-    go false = refl
-
 -- records without fault, of which one closes: at the place of a reading of the run a line gives the count that the run has there
-reading-line : (hs : List Said) → T (clean [] (its (text hs))) → T (closed (its (text hs))) → let r = run-of (its (text hs)) in (t d i : ℕ) → t < 2 → d < r .n → i < r .m
+reading-line : (hs : List Said) → T (clean [] (its (text hs))) → T (closed (its (text hs))) → let r = run-of (its (text hs)) in (t d i : ℕ) → t < r .strokes → d < r .n → i < r .m
     → Line 1 hs (label-at (reading-at t d i) (text hs .records)) (λ h. Gives h (reading-at t d i) (reading r t d i))
 reading-line hs c k t d i a b h =
     let rs = its (text hs) in
     let r = run-of rs in
     let p = reading-at t d i in
     let f = closed-there rs c k in
-    let w : T (within (r .m) (r .n) p) = yes-and (ltb t 2) (ltb d (r .n) && ltb i (r .m)) (lt→ltb t 2 a) (yes-and (ltb d (r .n)) (ltb i (r .m)) (lt→ltb d (r .n) b) (lt→ltb i (r .m) h)) in
+    let w : T (within (sizes r) p) = yes-and (ltb t (r .strokes)) (ltb d (r .n) && ltb i (r .m)) (lt→ltb t (r .strokes) a) (yes-and (ltb d (r .n)) (ltb i (r .m)) (lt→ltb d (r .n) b) (lt→ltb i (r .m) h)) in
     subst (λ (v : ℤ). Line 1 hs (label-at p (text hs .records)) (λ g. Gives g p v)) (sym (run-at (sizes-of rs) (λ q. number-at q (entries-of rs)) (f .0) p w)) (place-line hs p (f .1 p w))
 
 two-apart : (s : List ℕ) (i : ℕ) → let hs = heard s in let r = run-of (its (text hs)) in T (clean [] (its (text hs))) → T (closed (its (text hs)))
@@ -72,7 +62,7 @@ two-apart s i c k e h a =
       x = named .0;
       u = u .0;
       v = v .0;
-      told = e ∙ ap (lies-apart (text hs)) (named .1) ∙ apart-of r xs i;
+      told = e ∙ ap (lies-apart (text hs)) (named .1);
       counted = (line-counted f, line-counted g);
       named = named .1;
       high-is = u .1;

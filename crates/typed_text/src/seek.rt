@@ -18,7 +18,7 @@ fn is_record_of(i: usize, r: Record) -> bool
     ensures { λ b. ⌜ b ≡ gives-point i (Said.Item r) ⌝ }
 {
     match r {
-        Record::Opening { m: _, n: _ } => false,
+        Record::Opening { sizes: _ } => false,
         Record::Point { index, x: _ } => i == index,
         Record::Value {
             stroke: _,

@@ -230,7 +230,7 @@ pub fn part_of(s: Sum) -> Part
     Part { count: s.count }
 }
 
-// The mean of both strokes: where d is 2n, it counts U + D.
+// The mean of the up stroke and the last one: where d is 2n, it counts U + D.
 pub fn mean_of(up: Sum, down: Sum) -> Part
     requires { ⌜ Bounds (up .count ∷ down .count ∷ []) (most-s ∷ most-s ∷ []) ⌝ }
     ensures { λ v. ⌜ v .count ≡ up .count +ℤ down .count ⌝ }

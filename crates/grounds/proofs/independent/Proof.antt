@@ -10,7 +10,7 @@ use Rattle.grounds.proofs.independent.Statement.{statement}
 use Rattle.grounds.proofs.independent.Tie as tie
 
 abbrev run : tie.Start → Run
-run s = lent (s .args .m) (s .args .n) (s .args .x .now) (s .args .y .now)
+run s = lent (s .args .z) (s .args .x .now) (s .args .y .now)
 
 on-plot-requires : tie.Need-on-plot-requires
 on-plot-requires c κs = search needs

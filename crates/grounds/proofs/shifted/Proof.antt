@@ -13,7 +13,7 @@ use Rattle.grounds.proofs.shifted.Statement.{statement}
 use Rattle.grounds.proofs.shifted.Tie as tie
 
 abbrev run : tie.Start → Run
-run s = lent (s .args .m) (s .args .n) (s .args .x .now) (s .args .y .now)
+run s = lent (s .args .z) (s .args .x .now) (s .args .y .now)
 
 mean-unit-requires : tie.Need-mean-unit-requires
 mean-unit-requires c κs = meant-checked (c .pre) .n-most

@@ -6,15 +6,15 @@ use Rattle.run.specs.declared.Run.{Run}
 use Rattle.bands.specs.Through.{LargestOf}
 use Rattle.bands.specs.Parts.{width-at}
 use Rattle.grounds.specs.Basis.{sides-wide, sides-largest}
-use Rattle.grounds.specs.WidthLaws.{wide-answered, widest-most, narrow, width-stands}
+use Rattle.grounds.specs.WidthLaws.{widest-most, narrow, width-stands}
 use Rattle.grounds.proofs.wide.Statement.{statement}
 use Rattle.grounds.proofs.wide.Tie as tie
 
 abbrev run : tie.Start → Run
-run s = lent (s .args .m) (s .args .n) (s .args .x .now) (s .args .y .now)
+run s = lent (s .args .z) (s .args .x .now) (s .args .y .now)
 
 fine : (s : tie.Start) → Checked (run s)
-fine s = checked (run s) (s .pre .0)
+fine s = checked (run s) (s .pre .0 .fine)
 
 -- the width that was found is the largest of the run's
 largest : (c : tie.After-widest) → LargestOf (run (c .before) .m) (width-at (c .before .args .w) (run (c .before))) (natAbs (c .widest .result .count))
@@ -31,7 +31,7 @@ returns c =
     let w = c .before in
     let s = w .before in
     let k = s .args .w in
-    width-stands k (fine s) (wide-answered k (run s) (s .args .up .now) (s .args .down .now) (s .pre .0) (s .pre .2)) (w .widest .ensures .0) (largest w) (s .args .line) (s .pre .1) (c .on-width .result) (c .on-width .ensures)
+    width-stands k (fine s) (s .pre .0) (w .widest .ensures .0) (largest w) (s .args .line) (s .pre .1) (c .on-width .result) (c .on-width .ensures)
 
 pub wide-spec : {M : Type 1} → statement M
 wide-spec = tie.close (tie.spec widest-requires on-width-requires returns)

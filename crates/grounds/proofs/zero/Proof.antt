@@ -17,7 +17,7 @@ use Rattle.grounds.proofs.zero.Statement.{statement}
 use Rattle.grounds.proofs.zero.Tie as tie
 
 abbrev run : tie.Start → Run
-run s = lent (s .args .m) (s .args .n) (s .args .x .now) (s .args .y .now)
+run s = lent (s .args .z) (s .args .x .now) (s .args .y .now)
 
 has-negative-requires : tie.Need-has-negative-requires
 has-negative-requires c κs = search needs
@@ -25,13 +25,13 @@ has-negative-requires c κs = search needs
 returns : tie.Need-returns
 returns c =
     let s = c .before .before in
-    let e = sym (negative-is (s .args .m) (s .args .n) (s .args .x .now) (s .args .y .now)) ∙ sym (c .before .has-negative .ensures) ∙ c .if1 .taken in
+    let e = sym (negative-is (s .args .z) (s .args .x .now) (s .args .y .now)) ∙ sym (c .before .has-negative .ensures) ∙ c .if1 .taken in
     fifteen (run s) (s .pre .fine) (record { lt = yes-T e })
 
 from-zero-up : (c : tie.Else1) → BelowZero index.Zero (run (c .before .before)) → ⊥
 from-zero-up c h =
     let s = c .before .before in
-    let e = sym (negative-is (s .args .m) (s .args .n) (s .args .x .now) (s .args .y .now)) ∙ sym (c .before .has-negative .ensures) ∙ c .if1 .left in
+    let e = sym (negative-is (s .args .z) (s .args .x .now) (s .args .y .now)) ∙ sym (c .before .has-negative .ensures) ∙ c .if1 .left in
     T-not (ltZ (input (run s) 0) (pos 0)) (first-negative (meant-checked (s .pre)) h .lt) (no-T e)
 
 mean-unit-requires : tie.Need-mean-unit-requires

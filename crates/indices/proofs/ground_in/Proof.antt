@@ -10,7 +10,7 @@ use Rattle.indices.proofs.ground_in.Statement.{statement}
 use Rattle.indices.proofs.ground_in.Tie as tie
 
 abbrev run : tie.Start → Run
-run s = lent (s .args .m) (s .args .n) (s .args .x .now) (s .args .y .now)
+run s = lent (s .args .z) (s .args .x .now) (s .args .y .now)
 
 -- what is due for the index that an arm is told is due for the index
 told : (c : tie.Start) {which : Index} (g : Ground) → c .args .which ≡ which → GroundDue which (run c) g → GroundDue (c .args .which) (run c) g

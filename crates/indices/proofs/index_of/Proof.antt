@@ -24,7 +24,7 @@ returns c =
     let x = y .before in
     let s = x .before .before .before in
     let r = s .args .r in
-    let e = ap₂ {C = Run} (λ (a : List Input) (b : List Reading). record { m = r .m; n = r .n; x = a; y = b }) (x .inputs-of .ensures) (y .readings-of .ensures) in
+    let e = ap₂ {C = Run} (λ (a : List Input) (b : List Reading). record { m = r .m; n = r .n; strokes = r .strokes; x = a; y = b }) (x .inputs-of .ensures) (y .readings-of .ensures) in
     (subst (λ (r : Run). Due (s .args .which) r (c .index-over .result)) e (c .index-over .ensures .0), c .index-over .ensures .1)
 
 pub index-of-spec : {M : Type 1} → statement M

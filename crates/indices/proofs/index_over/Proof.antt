@@ -17,7 +17,7 @@ use Rattle.indices.proofs.index_over.Statement.{statement}
 use Rattle.indices.proofs.index_over.Tie as tie
 
 abbrev run : tie.Start → Run
-run s = lent (s .args .m) (s .args .n) (s .args .x .now) (s .args .y .now)
+run s = lent (s .args .z) (s .args .x .now) (s .args .y .now)
 
 -- no check refuses the run
 fine : (c : tie.Else1) → verdict (run (c .before .before .before)) .number ≡ 0
@@ -44,7 +44,7 @@ span-of-requires c κs =
     let e = c .before in
     let s = e .before .before .before in
     let a = s .args in
-    spanned (a .m) (a .n) (a .x .now) (a .y .now) (checked (run s) (fine e))
+    spanned (a .z) (a .x .now) (a .y .now) (checked (run s) (fine e))
 
 answer-of-requires : tie.Need-answer-of-requires
 answer-of-requires c κs =
@@ -58,7 +58,7 @@ returns-2 c =
     let g = p .before in
     let s = g .before .before .before .before in
     let a = s .args in
-    let e = p .span-of .ensures .0 ∙ span-is (a .m) (a .n) (a .x .now) (a .y .now) in (
+    let e = p .span-of .ensures .0 ∙ span-is (a .z) (a .x .now) (a .y .now) in (
       ground-answer (a .which) (run s) (g .ground-of .result) (g .ground-of .ensures) (subst (λ (n : ℕ). AnswerBy (g .ground-of .result) n (c .answer-of .result)) e (c .answer-of .ensures)),
       ground-told (g .ground-of .result) _ (c .answer-of .result) (c .answer-of .ensures),
     )

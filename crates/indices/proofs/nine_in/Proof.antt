@@ -13,17 +13,17 @@ use Rattle.indices.proofs.nine_in.Statement.{statement}
 use Rattle.indices.proofs.nine_in.Tie as tie
 
 abbrev run : tie.Start → Run
-run s = lent (s .args .m) (s .args .n) (s .args .x .now) (s .args .y .now)
+run s = lent (s .args .z) (s .args .x .now) (s .args .y .now)
 
 -- what every part needs: the run is checked, and its span is told
 fine : (s : tie.Start) → Checked (run s)
 fine s = meant-checked (s .pre .0)
 
 span-is-run : (c : tie.After-span-of) → c .span-of .result ≡ span (run (c .before))
-span-is-run c = let a = c .before .args in c .span-of .ensures .0 ∙ span-is (a .m) (a .n) (a .x .now) (a .y .now)
+span-is-run c = let a = c .before .args in c .span-of .ensures .0 ∙ span-is (a .z) (a .x .now) (a .y .now)
 
 span-of-requires : tie.Need-span-of-requires
-span-of-requires c κs = let a = c .args in spanned (a .m) (a .n) (a .x .now) (a .y .now) (fine c)
+span-of-requires c κs = let a = c .args in spanned (a .z) (a .x .now) (a .y .now) (fine c)
 
 independent-line-requires : tie.Need-independent-line-requires
 independent-line-requires c κs = c .before .pre .0

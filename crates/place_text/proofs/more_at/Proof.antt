@@ -1,6 +1,6 @@
 -- `place_text::more_at` meets its contract: 6 is told of the record at the place, 7 of the records before the close, which are all that tell an entry.
 use borrow.Author.Needs.{needs}
-use Rattle.place_text.specs.Told.{record-six, record-none, seven-few, record-seven}
+use Rattle.place_text.specs.Told.{record-six, record-none, seven-room, record-seven}
 use Rattle.place_text.proofs.more_at.Statement.{statement}
 use Rattle.place_text.proofs.more_at.Tie as tie
 
@@ -17,13 +17,15 @@ opening-requires c κs = search needs
 
 missing-requires : tie.Need-missing-requires
 missing-requires c κs =
-    let then = c .before in
-    seven-few (then .before .before .before .pre) (then .if2 .taken) (c .opening .ensures .0)
+    let o = c .before in
+    let then = o .before in
+    seven-room (then .before .before .before .pre) (then .if2 .taken) (o .opening .ensures .0)
 
 returns-2 : tie.Need-returns-2
 returns-2 c =
-    let then = c .before .before in
-    record-seven (then .before .before .before .pre) (then .if2 .taken) (c .before .opening .ensures .0) (c .missing .ensures)
+    let o = c .before .before in
+    let then = o .before in
+    record-seven (then .before .before .before .pre) (then .if2 .taken) (o .opening .ensures .0) (c .missing .ensures)
 
 returns-3 : tie.Need-returns-3
 returns-3 c = record-none (c .before .before .before .pre) (c .before .if1 .left) (c .if2 .left)

@@ -13,12 +13,14 @@ opening-requires c κs = search needs
 apart-requires : tie.Need-apart-requires
 apart-requires c κs =
     let o = c .before in
-    ten-strokes (o .before .before .pre) (o .if1 .left) (c .opening .ensures .0)
+    let else = o .before in
+    ten-strokes (else .before .before .pre) (else .if1 .left) (o .opening .ensures .0)
 
 returns-2 : tie.Need-returns-2
 returns-2 c =
     let o = c .before .before in
-    point-ten (o .before .before .pre) (o .if1 .left) (c .before .opening .ensures .0) (c .apart .ensures)
+    let else = o .before in
+    point-ten (else .before .before .pre) (else .if1 .left) (o .opening .ensures .0) (c .apart .ensures)
 
 pub more-of-point-spec : {M : Type 1} → statement M
 more-of-point-spec = tie.close (tie.spec returns opening-requires apart-requires returns-2)

@@ -17,13 +17,13 @@ returns c = let w = c .put-refused .ensures in let i = c .before .before in (she
 
 put-run-requires : tie.Need-put-run-requires
 put-run-requires c κs =
-    let i = c .before .before .before in
+    let i = c .before .before .before .before in
     let r = i .before .before in
     let k = r .before .before .before in
     (k .before .pre, read-fine (k .before .args .file .now) (r .read-into .ensures) (i .if1 .left))
 
 returns-2 : tie.Need-returns-2
-returns-2 c = let w = c .put-run .ensures in let i = c .before .before .before .before in (sheet-accepted (i .before .before .read-into .ensures) _ _ (i .if1 .left) w, (w .most, w .long))
+returns-2 c = let w = c .put-run .ensures in let i = c .before .before .before .before .before in (sheet-accepted (i .before .before .read-into .ensures) _ _ (i .if1 .left) w, (w .most, w .long))
 
 pub put-file-spec : {M : Type 1} → statement M
 put-file-spec = tie.close (tie.spec read-into-requires put-refused-requires returns put-run-requires returns-2)

@@ -63,7 +63,7 @@ returns : tie.Need-returns
 returns c =
     let k = c .before .before .before .before .before .before .before .before .before .before .before .before .before .before .before .before .before .before .before .before .before .before .before in
     let s = k .before in
-    let r = lent (s .args .m) (s .args .n) (s .args .x .now) (s .args .y .now) in
+    let r = lent (s .args .z) (s .args .x .now) (s .args .y .now) in
     let d = k .nine-over .ensures in
     let last = d .lhr .told in
     let A = answers (d .terminal .answer) (d .shifted .answer) (d .independent .answer) (d .zero .answer) (d .front .answer) (d .hysteresis .answer) (d .repeatability .answer) (d .lh .answer) (last .answer) in
