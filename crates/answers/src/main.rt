@@ -7,12 +7,15 @@
 // 2 and a file: its sheet in the buffer.
 // 3 and a run: its averages and its indices; the buffer's length counts for nothing.
 // 4 and a file: the reader's answer up to the close, and where that ends; a buffer is lent and left alone.
+#![tactic(auto)]
 mod files;
 mod runs;
 
-use libc::STDIN_FILENO;
 use run::Run;
 use trial::{Next, Page};
+
+// The numbers under which a process has its standard streams.
+const STDIN_FILENO: i32 = 0;
 
 // More requests than this are not read: a loop has to end.
 const MOST: u32 = 1000000;

@@ -1,4 +1,5 @@
 // The values that the lines of a run are drawn past, and the widths that are no line's, of its sums and limits.
+#![tactic(auto)]
 ghost use Rattle.std.specs.Prelude.{◌∷◌, [], ◌≡◌, ◌<◌, pos, nat_abs, ◌+ℤ◌, ◌-ℤ◌, length, ◌≤ℤ◌};
 ghost use Rattle.whole.specs.Filled.{Filled};
 ghost use Rattle.whole.specs.Greater.{smaller, greater};
@@ -10,7 +11,7 @@ ghost use Rattle.bands.specs.Lent.{mean_in, low_in, high_in, width_in, apart, Ad
 use units::{Part, Sum, sum_at};
 
 // What is largest over the points: D from U, or a limit.
-#[derive(Drop)]
+#[derive(Clone, Copy)]
 pub enum Width {
     Swing,
     Scatter,
@@ -31,7 +32,7 @@ pub fn means_of(m: usize, up: &[i64; 11], down: &[i64; 11], means: &mut [i64; 11
 }
 
 // The values at a point.
-#[derive(Drop)]
+#[derive(Clone, Copy)]
 struct Values {
     low: Part,
     high: Part,

@@ -1,4 +1,5 @@
 // Which answer is due for an index of a run, and how it is told of what the index stands on.
+#![tactic(auto)]
 ghost use Rattle.std.specs.Prelude.{◌≡◌, ◌*◌, ◌≤◌, nat_abs};
 ghost use Rattle.exact.specs.Rounding.{Nearest, Told};
 ghost use Rattle.exact.specs.Value.{nought};
@@ -8,7 +9,7 @@ ghost use Rattle.due.specs.Ground.{LineParts, ShownParts, AnswerParts, Tellable,
 use exact::{Fraction, Percent};
 use fit::Reach;
 
-#[derive(Drop)]
+#[derive(Clone, Copy)]
 pub enum Index {
     Terminal,
     Shifted,
@@ -22,7 +23,7 @@ pub enum Index {
 }
 
 // A number of the paper's table and its place; the width and the line; the index, as a fraction and in thousandths of one percent.
-#[derive(Drop)]
+#[derive(Clone, Copy)]
 pub struct Answer {
     pub number: u8,
     pub place: usize,
@@ -34,7 +35,7 @@ pub struct Answer {
 }
 
 // What a sheet shows of an answer.
-#[derive(Drop)]
+#[derive(Clone, Copy)]
 pub struct Shown {
     pub number: u8,
     pub index: Fraction,
@@ -42,14 +43,14 @@ pub struct Shown {
 }
 
 // The line of an answer.
-#[derive(Drop)]
+#[derive(Clone, Copy)]
 pub struct Ruled {
     pub slope: Fraction,
     pub offset: Fraction,
 }
 
 // The line (a·x + b)/q and the width num/(unit·q), in whole numbers. So the index is num/(unit·|a|·span), with no fraction divided by another.
-#[derive(Drop)]
+#[derive(Clone, Copy)]
 pub struct Based {
     pub a: i64,
     pub b: i64,
@@ -59,7 +60,7 @@ pub struct Based {
 }
 
 // What an index stands on: a line and a width; a width alone, which several lines reach; or a refusal.
-#[derive(Drop)]
+#[derive(Clone, Copy)]
 pub enum Ground {
     Line(Based),
     Several(Reach),

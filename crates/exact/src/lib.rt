@@ -1,4 +1,5 @@
 // Exact fractions: the greatest common divisor, lowest terms, and thousandths of one percent.
+#![tactic(auto)]
 ghost use Rattle.std.specs.Prelude.{◌≡◌, ◌<◌, ◌≤◌, nat_abs};
 ghost use Rattle.exact.specs.Divisor.{Gcd};
 ghost use Rattle.exact.specs.Value.{Made, NoLarger};
@@ -6,14 +7,14 @@ ghost use Rattle.exact.specs.Rounding.{Nearest, PercentDue};
 ghost use Rattle.exact.specs.Terms.{signed};
 
 // A numerator with a sign over a positive denominator.
-#[derive(Drop)]
+#[derive(Clone, Copy)]
 pub struct Fraction {
     pub num: i64,
     pub den: u64,
 }
 
 // A part of a whole in thousandths of one percent, where it is told.
-#[derive(Drop)]
+#[derive(Clone, Copy)]
 pub enum Percent {
     Thousandths(u64),
     Untold,

@@ -1,4 +1,5 @@
 // Lines through points: the terminal line, the shifted terminal line, and the line of least largest deviation.
+#![tactic(auto)]
 ghost use Rattle.std.specs.Prelude.{◌∷◌, [], ◌≡◌, ◌<◌, ◌≤◌, pos, nat_abs, ◌+ℤ◌, ◌-ℤ◌, ◌*ℤ◌, get_or};
 ghost use Rattle.whole.specs.Greater.{smaller, greater};
 ghost use Rattle.whole.specs.Machine.{Bounds};
@@ -15,7 +16,7 @@ use search::{Candidate, Top};
 use units::{gap, input_at, part_at, rise, times};
 
 // The line (a·x + b)/q and its width w/q, as whole numbers over one denominator. The index of a line is made of w and a.
-#[derive(Drop)]
+#[derive(Clone, Copy)]
 pub struct Course {
     pub a: i64,
     pub b: i64,
@@ -24,21 +25,21 @@ pub struct Course {
 }
 
 // The width w/q alone.
-#[derive(Drop)]
+#[derive(Clone, Copy)]
 pub struct Reach {
     pub w: i64,
     pub q: u64,
 }
 
 // What is found: a line; or only its width, where several lines reach it.
-#[derive(Drop)]
+#[derive(Clone, Copy)]
 pub enum Plotted {
     Line(Course),
     Several(Reach),
 }
 
 // A line and its width, with the three fractions in lowest terms.
-#[derive(Drop)]
+#[derive(Clone, Copy)]
 pub struct Fit {
     pub a: i64,
     pub b: i64,
@@ -50,7 +51,7 @@ pub struct Fit {
 }
 
 // The width alone, with its fraction.
-#[derive(Drop)]
+#[derive(Clone, Copy)]
 pub struct Wide {
     pub w: i64,
     pub q: u64,
@@ -58,7 +59,7 @@ pub struct Wide {
 }
 
 // A line; or only its width; or nothing, where the points are not admitted.
-#[derive(Drop)]
+#[derive(Clone, Copy)]
 pub enum Drawn {
     Line(Fit),
     Several(Wide),
@@ -66,7 +67,7 @@ pub enum Drawn {
 }
 
 // The line (a·x + b)/(s·d) through two points.
-#[derive(Drop)]
+#[derive(Clone, Copy)]
 struct Ends {
     a: i64,
     b: i64,
@@ -74,7 +75,7 @@ struct Ends {
 }
 
 // The smallest and the largest deviation.
-#[derive(Drop)]
+#[derive(Clone, Copy)]
 struct Spread {
     lo: i64,
     hi: i64,

@@ -1,4 +1,5 @@
 // The nine indices of a run.
+#![tactic(auto)]
 ghost use Rattle.std.specs.Prelude.{◌≡◌, ◌-◌};
 ghost use Rattle.exact.specs.Rounding.{Told};
 ghost use Rattle.run.specs.Run.{lent, group};
@@ -119,7 +120,7 @@ pub fn index_of(which: Index, r: Run) -> Answer
 }
 
 // ---- Every index of a run, as a sheet shows it, and the line of LHR.
-#[derive(Drop)]
+#[derive(Clone, Copy)]
 pub struct Nine {
     pub terminal: Shown,
     pub shifted: Shown,

@@ -1,5 +1,9 @@
 // Prints the listing of the run file on standard input.
-use libc::{STDIN_FILENO, STDOUT_FILENO};
+#![tactic(auto)]
+
+// The numbers under which a process has its standard streams.
+const STDIN_FILENO: i32 = 0;
+const STDOUT_FILENO: i32 = 1;
 
 // No answer depends on more than the first 1,837 bytes of a file, and no listing is longer than 8,402.
 fn main() {

@@ -1,4 +1,5 @@
 // Lines through a fixed point: the zero-based and the front terminal-based line.
+#![tactic(auto)]
 ghost use Rattle.std.specs.Prelude.{cond, ◌∷◌, [], ◌≡◌, ◌<◌, ◌≤◌, pos, nat_abs, ◌-ℤ◌, ◌*ℤ◌, ◌<ℤ◌};
 ghost use Rattle.std.specs.Int.Signed.{lt_z};
 ghost use Rattle.whole.specs.Machine.{Bounds};
@@ -16,14 +17,14 @@ use fit::{Course, Drawn, Plotted, complete, lay, only};
 use units::{Input, Part, gap, input_at, is_below, part_at, rise, times};
 
 // The fixed point: the value v at the input x.
-#[derive(Drop)]
+#[derive(Clone, Copy)]
 struct Pin {
     x: Input,
     v: Part,
 }
 
 // Two inputs and their fraction: no line through the fixed point has both values nearer.
-#[derive(Drop)]
+#[derive(Clone, Copy)]
 struct Pair {
     i: usize,
     j: usize,

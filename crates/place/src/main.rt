@@ -1,5 +1,9 @@
 // Prints which record the place of a refused run file means, of the run file on standard input.
-use libc::{STDIN_FILENO, STDOUT_FILENO};
+#![tactic(auto)]
+
+// The numbers under which a process has its standard streams.
+const STDIN_FILENO: i32 = 0;
+const STDOUT_FILENO: i32 = 1;
 
 // Number and place of a file depend on its first 1,837 bytes alone, and what is told has at most 831 bytes.
 fn main() {

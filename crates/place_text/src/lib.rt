@@ -1,4 +1,5 @@
 // Which record the place of a refused run file means, as bytes.
+#![tactic(auto)]
 ghost use Rattle.std.specs.Prelude.{[], ◌∷◌, ◌++◌, cond, ◌≡◌, ◌<◌, ◌≤◌, ltb, length};
 ghost use Rattle.run.specs.Places.{input_at, reading_at};
 ghost use Rattle.plain.specs.Digits.{decimal};
@@ -37,7 +38,7 @@ fn is_close(r: Record) -> bool
 }
 
 // Where the walk over the records is: the number behind the last record that was counted, and where the next one stands; `more` is 1 while there is one to look at.
-#[derive(Drop)]
+#[derive(Clone, Copy)]
 struct Step {
     more: usize,
     k: usize,

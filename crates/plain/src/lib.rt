@@ -1,4 +1,5 @@
 // Plain text: numbers in decimal and the refusal line, put into a lent array behind what stands there; and bytes at the front of a lent buffer.
+#![tactic(auto)]
 ghost use Rattle.std.specs.Prelude.{◌∷◌, [], ◌++◌, ◌≡◌, ◌+◌, ◌≤◌, length};
 ghost use Rattle.std.proofs.lemmas.List.Edits.{sets};
 ghost use Rattle.plain.specs.Digits.{decimal, signed, fraction, percent};
@@ -9,7 +10,7 @@ ghost use Rattle.plain.specs.Grown.{Put};
 use exact::Fraction;
 
 // 0 and the length of what is printed; or 14 and 0, where the lent buffer is too short.
-#[derive(Drop)]
+#[derive(Clone, Copy)]
 pub struct Printed {
     pub number: u8,
     pub len: usize,

@@ -1,1 +1,2 @@
 // No code: the promises are theorems over the definitions, in specs/.
+#![tactic(auto)]

@@ -1,4 +1,5 @@
 // The greatest candidate: of all inputs and all triples of inputs the one that keeps the lines furthest off.
+#![tactic(auto)]
 ghost use Rattle.std.specs.Prelude.{◌∷◌, [], cond, ◌≡◌, ◌<◌, ◌+◌, ◌+ℤ◌, ◌*ℤ◌};
 ghost use Rattle.std.specs.Int.Signed.{lt_z, le_z};
 ghost use Rattle.whole.specs.Every.{FirstNot};
@@ -13,7 +14,7 @@ ghost use Rattle.search.specs.Twin.{apart};
 use units::{gap, input_at, part_at, rise};
 
 // The highest above the lowest value at one input; a chord over the highest values at the outer two of three inputs, above the lowest at the middle one; or the highest value there above a chord over the lowest.
-#[derive(Drop)]
+#[derive(Clone, Copy)]
 pub enum Candidate {
     One(usize),
     Up(usize, usize, usize),
@@ -21,7 +22,7 @@ pub enum Candidate {
 }
 
 // A candidate and its fraction.
-#[derive(Drop)]
+#[derive(Clone, Copy)]
 pub struct Top {
     pub which: Candidate,
     pub num: i64,
@@ -29,7 +30,7 @@ pub struct Top {
 }
 
 // The same while the loops run, without an enum: kind 0 is One at i, kind 1 Up, kind 2 Down. Six words stay in registers.
-#[derive(Drop)]
+#[derive(Clone, Copy)]
 struct Held {
     kind: usize,
     i: usize,
@@ -40,7 +41,7 @@ struct Held {
 }
 
 // The middle of a chord from i to k, and what stands above its fraction's stroke: all that differs between them, and two words stay in registers.
-#[derive(Drop)]
+#[derive(Clone, Copy)]
 struct Middle {
     j: usize,
     num: i64,

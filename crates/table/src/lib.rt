@@ -1,1 +1,2 @@
 // A table of refusals: theory only, without code.
+#![tactic(auto)]

@@ -1,1 +1,2 @@
 // What a typed text means: theory only, without code. `typed_text` hears it.
+#![tactic(auto)]

@@ -5,8 +5,11 @@
 // 1 and a text of at most 65,600 bytes: its run file in a buffer of at most 2,048 bytes; where it is refused, what tells it in a buffer of 120.
 // 2 and a run file of at most 4,096 bytes: which record its place means, in a buffer of at most 8,448 bytes.
 // Of each answer the numbers are printed on a line, then the whole buffer, then a line feed.
-use libc::STDIN_FILENO;
+#![tactic(auto)]
 use trial::{Next, Page};
+
+// The numbers under which a process has its standard streams.
+const STDIN_FILENO: i32 = 0;
 
 // More requests than this are not read: a loop has to end.
 const MOST: u32 = 1000000;

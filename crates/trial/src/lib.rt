@@ -1,14 +1,18 @@
 // What the programs that the comparison runs have in common: numbers in, numbers out.
 //
 // What is to be printed gathers on a page, of which the first `at` bytes are filled, and the whole answer is then written by one call. A page that is full is written before its end is reached, so nothing is dropped.
+#![tactic(auto)]
 ghost use Rattle.std.specs.Prelude.{◌≡◌, length};
 
 use exact::Fraction;
-use libc::{STDIN_FILENO, STDOUT_FILENO};
 use units::{Input, Reading};
 
+// The numbers under which a process has its standard streams.
+const STDIN_FILENO: i32 = 0;
+const STDOUT_FILENO: i32 = 1;
+
 // What the next eight bytes of standard input hold.
-#[derive(Drop)]
+#[derive(Clone, Copy)]
 pub enum Next {
     Word(u64),
     End,

@@ -1,5 +1,10 @@
 // Makes a run file of the text on standard input, or tells on standard error what is wrong with it.
-use libc::{STDERR_FILENO, STDIN_FILENO, STDOUT_FILENO};
+#![tactic(auto)]
+
+// The numbers under which a process has its standard streams.
+const STDIN_FILENO: i32 = 0;
+const STDOUT_FILENO: i32 = 1;
+const STDERR_FILENO: i32 = 2;
 
 // A sentence has at most 39 bytes and the number of a line five digits, so 120 bytes are enough for the three lines.
 fn tell(text: &[u8], number: u8, line: usize) {

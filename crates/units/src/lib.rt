@@ -1,5 +1,6 @@
 // The numbers of the bench, kept apart by their types (the paper, "Input units, reading units and sum units"). They are worked with here and, but for comparisons, nowhere else: a stranger can
 // see that no number of one kind is ever added to one of another. Outside, a difference is a whole number whose name says what it counts; only the differences of readings that are added up, for Q, have a type.
+#![tactic(auto)]
 ghost use Rattle.std.specs.Prelude.{◌∷◌, [], ◌≡◌, ◌<◌, ◌≤◌, pos, nat_abs, ◌+ℤ◌, ◌-ℤ◌, ◌*ℤ◌, ◌≤ℤ◌};
 ghost use Rattle.std.specs.Int.Signed.{lt_z};
 ghost use Rattle.whole.specs.Greater.{smaller, greater};
@@ -7,37 +8,37 @@ ghost use Rattle.whole.specs.Machine.{Bounds};
 ghost use Rattle.units.specs.Units.{most_x, most_y, most_difference, most_difference_sum, most_square_sum, most_s, most_v, input_in, reading_in, sum_in, part_in};
 
 // An input x, in input units.
-#[derive(Drop)]
+#[derive(Clone, Copy)]
 pub struct Input {
     pub count: i64,
 }
 
 // A single reading y, in reading units.
-#[derive(Drop)]
+#[derive(Clone, Copy)]
 pub struct Reading {
     pub count: i64,
 }
 
 // A sum over the n cycles of a run, in sum units: one nth of a reading unit.
-#[derive(Drop)]
+#[derive(Clone, Copy)]
 pub struct Sum {
     pub count: i64,
 }
 
 // A reading's difference to another of its group, or such differences added up, in reading units. It is no reading, since it stays as it is where all readings are shifted, and no sum of readings.
-#[derive(Drop)]
+#[derive(Clone, Copy)]
 pub struct Difference {
     pub count: i64,
 }
 
 // The square of a difference, or such squares added up, in squares of a reading unit.
-#[derive(Drop)]
+#[derive(Clone, Copy)]
 pub struct Square {
     pub count: i64,
 }
 
 // A value that lines are drawn past, in parts: one dth of a reading unit. The d is told beside the values: n for sums, 2n for means.
-#[derive(Drop)]
+#[derive(Clone, Copy)]
 pub struct Part {
     pub count: i64,
 }

@@ -1,0 +1,11 @@
+-- `plain::put_bytes` meets its contract: the bytes so far stand behind the first `at`.
+use Prim.Native.Nat.{◌≤◌, ◌-◌}
+use lib.ListN.{length, take}
+use Rattle.plain.specs.Grown.{Put}
+use Rattle.plain.proofs.put_bytes.Given as goal
+
+abbrev pub invariant-loop-i : goal.invariant-loop-i
+invariant-loop-i l = (l.i ≤ length l.s) × Put l.initial.out l.at (take l.i l.s) l.out l.next
+
+abbrev pub decreases-loop-i : goal.decreases-loop-i
+decreases-loop-i l = length l.s - l.i
