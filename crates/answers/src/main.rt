@@ -8,6 +8,7 @@
 // 3 and a run: its averages and its indices; the buffer's length counts for nothing.
 // 4 and a file: the reader's answer up to the close, and where that ends; a buffer is lent and left alone.
 #![tactic(auto)]
+
 mod files;
 mod runs;
 

@@ -1,5 +1,6 @@
 // At each of m rising inputs a lowest and a highest value, which count units of 1/d. The counts are lent: inputs, lowest and highest values.
 #![tactic(auto)]
+
 ghost use Rattle.std.specs.Prelude.{◌&&◌, ◌≡◌, ◌<◌, ◌≤◌, pos, get_or};
 ghost use Rattle.std.specs.Int.Signed.{le_z};
 ghost use Rattle.whole.specs.Every.{every};

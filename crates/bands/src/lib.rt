@@ -1,5 +1,6 @@
 // The values that the lines of a run are drawn past, and the widths that are no line's, of its sums and limits.
 #![tactic(auto)]
+
 ghost use Rattle.std.specs.Prelude.{◌∷◌, [], ◌≡◌, ◌<◌, pos, nat_abs, ◌+ℤ◌, ◌-ℤ◌, length, ◌≤ℤ◌};
 ghost use Rattle.whole.specs.Filled.{Filled};
 ghost use Rattle.whole.specs.Greater.{smaller, greater};

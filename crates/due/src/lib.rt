@@ -1,5 +1,6 @@
 // Which answer is due for an index of a run, and how it is told of what the index stands on.
 #![tactic(auto)]
+
 ghost use Rattle.std.specs.Prelude.{◌≡◌, ◌*◌, ◌≤◌, nat_abs};
 ghost use Rattle.exact.specs.Rounding.{Nearest, Told};
 ghost use Rattle.exact.specs.Value.{nought};

@@ -1,5 +1,6 @@
 // Numbers of eight bytes, as the comparison sends them.
 #![tactic(auto)]
+
 ghost use Rattle.std.specs.Prelude.{◌≡◌, ◌<◌, ◌^◌, pos, ◌-ℤ◌};
 ghost use Rattle.eight_bytes.specs.Word.{four, little};
 

@@ -1,5 +1,6 @@
 // Exact fractions: the greatest common divisor, lowest terms, and thousandths of one percent.
 #![tactic(auto)]
+
 ghost use Rattle.std.specs.Prelude.{◌≡◌, ◌<◌, ◌≤◌, nat_abs};
 ghost use Rattle.exact.specs.Divisor.{Gcd};
 ghost use Rattle.exact.specs.Value.{Made, NoLarger};

@@ -3,6 +3,7 @@
 // Standard input holds records of two numbers of 8 bytes, low byte first: a numerator plus 2 to the 63rd, and a denominator.
 // For each a line is printed: the fraction in lowest terms, a space, and its thousandths of one percent, or `untold`.
 #![tactic(auto)]
+
 use exact::Percent;
 use trial::{Next, Page};
 

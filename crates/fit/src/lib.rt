@@ -1,5 +1,6 @@
 // Lines through points: the terminal line, the shifted terminal line, and the line of least largest deviation.
 #![tactic(auto)]
+
 ghost use Rattle.std.specs.Prelude.{◌∷◌, [], ◌≡◌, ◌<◌, ◌≤◌, pos, nat_abs, ◌+ℤ◌, ◌-ℤ◌, ◌*ℤ◌, get_or};
 ghost use Rattle.whole.specs.Greater.{smaller, greater};
 ghost use Rattle.whole.specs.Machine.{Bounds};

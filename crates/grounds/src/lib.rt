@@ -1,5 +1,6 @@
 // What each index of a run stands on: its line and its width, of the run's sums, means and limits.
 #![tactic(auto)]
+
 ghost use Rattle.std.specs.Prelude.{◌≡◌, ◌*◌, ◌-◌, ◌≤◌, eqb, pos, nat_abs, get_or, length};
 ghost use Rattle.std.specs.Int.Signed.{lt_z};
 ghost use Rattle.run.specs.Run.{lent, group};

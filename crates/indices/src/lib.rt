@@ -1,5 +1,6 @@
 // The nine indices of a run.
 #![tactic(auto)]
+
 ghost use Rattle.std.specs.Prelude.{◌≡◌, ◌-◌};
 ghost use Rattle.exact.specs.Rounding.{Told};
 ghost use Rattle.run.specs.Run.{lent, group};

@@ -1,6 +1,7 @@
 // The independent line alone, for the benchmark:
 // void wheattunic_line(size_t m, uint64_t d, const int64_t x[11], const int64_t v[11], int64_t above[3], uint64_t below[3]).
 #![tactic(auto)]
+
 ghost use Rattle.std.specs.Prelude.{◌≡◌};
 ghost use Rattle.band.specs.Band.{lent};
 ghost use Rattle.line_for_c.specs.Line.{Handed, numerators, denominators};

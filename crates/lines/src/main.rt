@@ -3,6 +3,7 @@
 // Standard input holds bands, each of numbers of 8 bytes, low byte first: m and d, then 11 inputs, 11 lowest and 11 highest values, each of these more by 2 to the 63rd.
 // For each band five lines are printed, `terminal`, `shifted`, `best`, `zero` and `front`: width, slope and offset, or `several` and the width, or `improper`.
 #![tactic(auto)]
+
 use fit::{Drawn, Fit};
 use trial::{Next, Page};
 

@@ -1,5 +1,6 @@
 // Lines through a fixed point: the zero-based and the front terminal-based line.
 #![tactic(auto)]
+
 ghost use Rattle.std.specs.Prelude.{cond, ◌∷◌, [], ◌≡◌, ◌<◌, ◌≤◌, pos, nat_abs, ◌-ℤ◌, ◌*ℤ◌, ◌<ℤ◌};
 ghost use Rattle.std.specs.Int.Signed.{lt_z};
 ghost use Rattle.whole.specs.Machine.{Bounds};

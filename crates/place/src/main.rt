@@ -3,6 +3,7 @@
 
 // The numbers under which a process has its standard streams.
 const STDIN_FILENO: i32 = 0;
+
 const STDOUT_FILENO: i32 = 1;
 
 // Number and place of a file depend on its first 1,837 bytes alone, and what is told has at most 831 bytes.

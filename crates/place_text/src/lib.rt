@@ -1,5 +1,6 @@
 // Which record the place of a refused run file means, as bytes.
 #![tactic(auto)]
+
 ghost use Rattle.std.specs.Prelude.{[], ◌∷◌, ◌++◌, cond, ◌≡◌, ◌<◌, ◌≤◌, ltb, length};
 ghost use Rattle.run.specs.Places.{input_at, reading_at};
 ghost use Rattle.plain.specs.Digits.{decimal};

@@ -1,5 +1,6 @@
 // Plain text: numbers in decimal and the refusal line, put into a lent array behind what stands there; and bytes at the front of a lent buffer.
 #![tactic(auto)]
+
 ghost use Rattle.std.specs.Prelude.{◌∷◌, [], ◌++◌, ◌≡◌, ◌+◌, ◌≤◌, length};
 ghost use Rattle.std.proofs.lemmas.List.Edits.{sets};
 ghost use Rattle.plain.specs.Digits.{decimal, signed, fraction, percent};

@@ -1,5 +1,6 @@
 // The greatest candidate: of all inputs and all triples of inputs the one that keeps the lines furthest off.
 #![tactic(auto)]
+
 ghost use Rattle.std.specs.Prelude.{◌∷◌, [], cond, ◌≡◌, ◌<◌, ◌+◌, ◌+ℤ◌, ◌*ℤ◌};
 ghost use Rattle.std.specs.Int.Signed.{lt_z, le_z};
 ghost use Rattle.whole.specs.Every.{FirstNot};

@@ -1,5 +1,6 @@
 // How the refusal of a typed text is told, and what more is told of any refusal.
 #![tactic(auto)]
+
 ghost use Rattle.std.specs.Prelude.{◌∷◌, ◌++◌, ◌≡◌, length};
 ghost use Rattle.plain.specs.Digits.{decimal};
 ghost use Rattle.plain.specs.Grown.{Put};

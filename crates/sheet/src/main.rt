@@ -3,6 +3,7 @@
 
 // The numbers under which a process has its standard streams.
 const STDIN_FILENO: i32 = 0;
+
 const STDOUT_FILENO: i32 = 1;
 
 // No answer depends on more than the first 1,837 bytes of a file, and no sheet is longer than 831.

@@ -1,5 +1,6 @@
 // The sheet for programs in C: size_t wheattunic_sheet(const uint8_t *file, size_t file_len, uint8_t *out, size_t out_len).
 #![tactic(auto)]
+
 ghost use Rattle.sheet_for_c.specs.ForC.{Handed};
 
 // Puts the sheet of any byte string at the front of a buffer, and answers its length; 0 where the buffer is too short, which then stays as it was.

@@ -1,5 +1,6 @@
 // The sheet of a run file, as bytes.
 #![tactic(auto)]
+
 ghost use Rattle.std.specs.Prelude.{◌∷◌, ◌++◌, ◌≡◌, ◌<◌, ◌≤◌, length, take};
 ghost use Rattle.plain.specs.Digits.{fraction, percent};
 ghost use Rattle.plain.specs.Plain.{space, refused_line, printed, buffer_after};

@@ -1,5 +1,6 @@
 // What more is told of a refused text.
 #![tactic(auto)]
+
 ghost use Rattle.std.specs.Prelude.{[], ◌≡◌, ◌-◌, ◌<◌, ◌≤◌, length};
 ghost use Rattle.table.specs.Table.{given_at, given};
 ghost use Rattle.words.specs.Words.{words};

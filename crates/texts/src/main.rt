@@ -6,6 +6,7 @@
 // 2 and a run file of at most 4,096 bytes: which record its place means, in a buffer of at most 8,448 bytes.
 // Of each answer the numbers are printed on a line, then the whole buffer, then a line feed.
 #![tactic(auto)]
+
 use trial::{Next, Page};
 
 // The numbers under which a process has its standard streams.

@@ -2,6 +2,7 @@
 //
 // What is to be printed gathers on a page, of which the first `at` bytes are filled, and the whole answer is then written by one call. A page that is full is written before its end is reached, so nothing is dropped.
 #![tactic(auto)]
+
 ghost use Rattle.std.specs.Prelude.{◌≡◌, length};
 
 use exact::Fraction;
@@ -9,6 +10,7 @@ use units::{Input, Reading};
 
 // The numbers under which a process has its standard streams.
 const STDIN_FILENO: i32 = 0;
+
 const STDOUT_FILENO: i32 = 1;
 
 // What the next eight bytes of standard input hold.

@@ -3,7 +3,9 @@
 
 // The numbers under which a process has its standard streams.
 const STDIN_FILENO: i32 = 0;
+
 const STDOUT_FILENO: i32 = 1;
+
 const STDERR_FILENO: i32 = 2;
 
 // A sentence has at most 39 bytes and the number of a line five digits, so 120 bytes are enough for the three lines.

@@ -1,6 +1,7 @@
 // The numbers of the bench, kept apart by their types (the paper, "Input units, reading units and sum units"). They are worked with here and, but for comparisons, nowhere else: a stranger can
 // see that no number of one kind is ever added to one of another. Outside, a difference is a whole number whose name says what it counts; only the differences of readings that are added up, for Q, have a type.
 #![tactic(auto)]
+
 ghost use Rattle.std.specs.Prelude.{◌∷◌, [], ◌≡◌, ◌<◌, ◌≤◌, pos, nat_abs, ◌+ℤ◌, ◌-ℤ◌, ◌*ℤ◌, ◌≤ℤ◌};
 ghost use Rattle.std.specs.Int.Signed.{lt_z};
 ghost use Rattle.whole.specs.Greater.{smaller, greater};

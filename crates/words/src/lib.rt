@@ -1,5 +1,6 @@
 // A text as lines, a line as words, a word as a number.
 #![tactic(auto)]
+
 ghost use Rattle.std.specs.Prelude.{[], ◌∷◌, ◌≡◌, ◌+◌, ◌-◌, ◌<◌, ◌≤◌, T, length, get_or, take, drop};
 ghost use Rattle.words.specs.Words as W;
 ghost use Rattle.words.specs.Words.{lines, words, numeral, value, unsigned, unmarked};

@@ -1,5 +1,6 @@
 // Worked uses of whole's laws on the machine's signed operations: what each asks, answered in a line. Nothing calls these functions; they are here to be read.
 #![tactic(auto)]
+
 ghost use Rattle.std.specs.Prelude.{true, false, ◌∷◌, [], ◌≡◌, ◌<◌, ◌^◌, pos, nat_abs, ◌+ℤ◌, ◌-ℤ◌, ◌*ℤ◌, ◌≤ℤ◌, ◌<ℤ◌};
 ghost use Rattle.whole.specs.Machine.{Bounds};
 

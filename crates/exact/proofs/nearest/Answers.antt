@@ -1,5 +1,4 @@
 -- `exact::nearest` meets its contract: v is whole·d + rest, and rest is compared with what it lacks to d. Which number is then due is said by the laws of the rule.
-use Prim.Native.Nat.{◌-◌}
 use native.Mathlib.Nat.{le_antisymm}
 use Rattle.exact.specs.RoundingLaws.{nearest_below, nearest_above, nearest_even}
 use Rattle.exact.proofs.nearest.Goals as goal

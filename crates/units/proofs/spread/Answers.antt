@@ -2,7 +2,7 @@
 use mathlib.Core.Path.{ap, ◌∙◌}
 use mathlib.Core.List.{List, ◌∷◌, []}
 use Prim.Native.Nat.{ℕ}
-use lib.IntN.{ℤ, pos}
+use lib.IntN.{pos}
 use Rattle.whole.specs.Poly.{E, var, ◌⊖◌, ◌⊗◌}
 use Rattle.whole.specs.Sign.{nat_nonneg}
 use Rattle.whole.specs.Machine.{to_u64, as_u64}

@@ -1,6 +1,5 @@
 -- `words::are_digits` meets its contract. The bytes passed are digits, so the rest tells.
 use mathlib.Core.Path.{sym, ◌∙◌}
-use Prim.Native.Nat.{◌-◌}
 use native.Mathlib.Omega.{arith}
 use Rattle.words.specs.NumberLaws.{digits_fail, digits_more, digits_end}
 use Rattle.words.proofs.are_digits.Goals as goal

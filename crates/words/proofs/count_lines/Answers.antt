@@ -1,6 +1,5 @@
 -- `words::count_lines` meets its contract: the lines counted and those from the place reached on are all of them.
 use mathlib.Core.Path.{ap}
-use Prim.Native.Nat.{◌-◌}
 use native.Mathlib.Omega.{arith}
 use lib.ListN.{length}
 use Rattle.words.specs.LineLaws.{lines_end}

@@ -1,6 +1,5 @@
 -- `words::end` meets its contract: nothing that is passed is blank.
 use mathlib.Core.Path.{sym, ◌∙◌}
-use Prim.Native.Nat.{◌-◌}
 use native.Mathlib.Omega.{arith}
 use Rattle.words.specs.Words.{blank}
 use Rattle.words.specs.Passed.{passed_none, passed_more}

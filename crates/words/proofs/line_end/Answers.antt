@@ -1,5 +1,4 @@
 -- `words::line_end` meets its contract: nothing that is passed is a line feed.
-use Prim.Native.Nat.{◌-◌}
 use native.Mathlib.Omega.{arith}
 use borrow.Author.Tests.{ne_eqb}
 use Rattle.words.specs.Passed.{passed_none, passed_more}

@@ -1,6 +1,5 @@
 -- `words::same` meets its contract. The bytes passed are the same in both words, so the rests tell.
 use mathlib.Core.Path.{sym, ◌∙◌}
-use Prim.Native.Nat.{◌-◌}
 use native.Mathlib.Omega.{arith}
 use Rattle.words.specs.NumberLaws.{same_lengths, same_apart, same_more, same_end}
 use Rattle.words.proofs.same.Goals as goal

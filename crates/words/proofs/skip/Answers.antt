@@ -1,6 +1,5 @@
 -- `words::skip` meets its contract: what is passed are blanks, so that the words from there on are the same.
 use mathlib.Core.Path.{sym, ◌∙◌}
-use Prim.Native.Nat.{◌-◌}
 use native.Mathlib.Omega.{arith}
 use Rattle.words.specs.WordLaws.{words_on}
 use Rattle.words.proofs.skip.Goals as goal

@@ -1,6 +1,6 @@
 -- `words::value_of` meets its contract. The rest behind the number so far writes the whole; i digits count less than 10 to the i, and there are at most seven.
 use mathlib.Core.Path.{sym, ◌∙◌}
-use Prim.Native.Nat.{◌-◌, ◌<◌, ◌^◌}
+use Prim.Native.Nat.{◌<◌, ◌^◌}
 use native.Mathlib.Omega.{arith}
 use lib.ListN.{get_or}
 use Rattle.words.specs.NumberLaws.{DigitByte, digits_at, value_more, value_end, tens_more, tens_most, numeral_most, numeral_digits}

@@ -1,0 +1,20 @@
+-- `fit::terminal_of` meets its contract: the heights above the terminal line are known to range from `lo` to `hi`, and so `Due` has it that the numbers tell the terminal line.
+use Prim.Native.Nat.{◌-◌}
+use Rattle.fit.specs.Ends.{Ready}
+use Rattle.fit.specs.EndsLaws.{ready}
+use Rattle.fit.specs.PartsLaws.{tells_parts}
+use Rattle.fit.specs.Due.{terminal_due}
+use Rattle.fit.proofs.terminal_of.Goals.{After-spread_of-r}
+use Rattle.fit.proofs.terminal_of.Goals as goal
+
+numbers : (c : After-spread_of-r) → Ready c.through-e.result c.spread_of-r.result c.args.d
+numbers c = ready c.requires.0 c.through-e.ensures c.spread_of-r.ensures
+
+pub plain-requires : goal.plain-requires
+plain-requires c = numbers (goal.at.plain-requires c).After-spread_of-r
+
+pub returns : goal.returns
+returns c =
+    let s = c in
+    let h = s.requires in
+    record { due = λ f t. terminal_due h.0 h.1 s.through-e.ensures s.spread_of-r.ensures (numbers (goal.at.returns c).After-spread_of-r) (tells_parts c.plain.ensures t) }
