@@ -1,6 +1,5 @@
 -- `band::is_level` meets its contract. The flag tells whether there was one value at each input so far.
 use mathlib.Core.Path.{ap₂, ◌∙◌}
-use Prim.Native.Nat.{◌-◌}
 use lib.Signed.{le_z}
 use Rattle.whole.specs.Every.{tested_none, tested_more}
 use Rattle.units.specs.declared.Part.{Part}

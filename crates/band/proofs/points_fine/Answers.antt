@@ -1,5 +1,4 @@
 -- `band::points_fine` meets its contract. The flag tells whether the points so far are fine.
-use Prim.Native.Nat.{◌-◌}
 use Rattle.whole.specs.Every.{tested_none, tested_more}
 use Rattle.band.proofs.points_fine.Goals as goal
 

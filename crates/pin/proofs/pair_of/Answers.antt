@@ -26,9 +26,9 @@ returns c =
     let p = s.args.p in
     let a_is = to_z-of_z {w = w64} (search rules) ∙ a.rise_of.ensures.value in
     let b_is = to_z-of_z {w = w64} (search rules) ∙ b.rise_of-2.ensures.value in
-    let k-is = to_z-of_z {w = w64} (search rules) ∙ k.ahead_of_lem.ensures.0 in
+    let k-is = to_z-of_z {w = w64} (search rules) ∙ k.ahead_of.ensures.value in
     let n_is = to_z-of_z {w = w64} (search rules) ∙ n.ahead_of-2.ensures.value in
     told_pair s.requires.0 s.requires.1
     (c.paired.ensures
-    ∙ ap₂ (λ (a b : ℤ). ordered s.args.i s.args.j a b (stored k.ahead_of_lem.result) (stored n.ahead_of-2.result)) a_is b_is
+    ∙ ap₂ (λ (a b : ℤ). ordered s.args.i s.args.j a b (stored k.ahead_of.result) (stored n.ahead_of-2.result)) a_is b_is
     ∙ ap₂ (ordered s.args.i s.args.j (rise (P (goal.at.returns c).Start) p.v.count s.args.i) (rise (P (goal.at.returns c).Start) p.v.count s.args.j)) k-is n_is)

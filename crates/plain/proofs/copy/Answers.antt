@@ -1,7 +1,7 @@
 -- `plain::copy` meets its contract. The bytes below i are copied.
 use mathlib.Core.Path.{ap, ◌∙◌}
 use mathlib.Core.List.{List}
-use Prim.Native.Nat.{ℕ, ◌+◌, ◌-◌}
+use Prim.Native.Nat.{ℕ, ◌+◌}
 use native.Mathlib.Omega.{arith}
 use lib.ListN.{set, get_or}
 use Rattle.plain.specs.CopyLaws.{copied_more}

@@ -1,5 +1,5 @@
 -- `plain::put_bytes` meets its contract: the bytes so far stand behind the first `at`.
-use Prim.Native.Nat.{◌<◌, ◌-◌}
+use Prim.Native.Nat.{◌<◌}
 use native.Mathlib.Numerals.{add-one}
 use native.Mathlib.Omega.{arith}
 use borrow.Author.Rules.{rules}

@@ -1,0 +1,30 @@
+-- `pin::zero` meets its contract: the inputs rise, so none is negative where the first is not.
+use mathlib.Core.Path.{◌≡◌, sym, ap, ◌∙◌}
+use lib.IntN.{pos}
+use lib.Signed.{lt_z, lt_z_no}
+use Rattle.whole.specs.Flags.{no-T}
+use Rattle.units.specs.declared.Input.{Input}
+use Rattle.band.specs.Line.{Points, OneValue}
+use Rattle.band.specs.Band.{lent, Admitted}
+use Rattle.band.specs.AdmitLaws.{drawn_yes, drawn_no}
+use Rattle.pin.specs.PairLaws.{beyond_first}
+use Rattle.pin.proofs.zero.Goals.{After-is_below, Else-not-is_drawn, Start}
+use Rattle.pin.proofs.zero.Goals as goal
+
+abbrev P : Start → Points
+P s = let a = s.args in lent a.m a.d a.x.now a.low.now a.high.now
+
+drawn : (c : Else-not-is_drawn) → let Q = P c.before.before in Admitted Q × OneValue Q
+drawn c = let t = c in drawn_yes (P c.before.before) (sym t.is_drawn.ensures ∙ c.if-not-is_drawn.false)
+
+-- the first input was held against 0
+test : (c : After-is_below) → lt_z ((P c.before.before.before.before).x 0) (pos 0) ≡ c.is_below.result
+test c = sym (c.is_below.ensures ∙ ap (λ (u : Input). lt_z u.count (pos 0)) c.input_at.ensures)
+
+pub returns-then-not-is_drawn : goal.returns-then-not-is_drawn
+returns-then-not-is_drawn c = let t = c in λ a level h. drawn_no (P (goal.at.returns-then-not-is_drawn c).Start) (sym t.is_drawn.ensures ∙ c.if-not-is_drawn.true) a level
+
+pub zero_of-requires : goal.zero_of-requires
+zero_of-requires c =
+    let d = drawn (goal.at.zero_of-requires c).Else-not-is_drawn in
+    (d.0, d.1, beyond_first d.0.proper (lt_z_no (no-T (test (goal.at.zero_of-requires c).After-is_below ∙ c.if-is_below.false))))
