@@ -4,7 +4,7 @@ use Rattle.std.proofs.Common.{sym, ap, ◌∙◌, subst, arith}
 use Rattle.std.proofs.Math.IntN.{ℤ_discrete}
 use Rattle.whole.specs.Size.{size_product}
 use Rattle.exact.specs.Rounding.{Nearest}
-use Rattle.exact.specs.Once.{one_nearest}
+use Rattle.exact.proofs.RoundingOnce.{one_nearest}
 use Rattle.exact.specs.declared.Fraction.{Fraction}
 use Rattle.run.specs.Checked.{Checked, checked}
 use Rattle.run.specs.declared.Run.{Run}
@@ -17,7 +17,6 @@ use Rattle.due.specs.Cases.{Counted, Given, several, one_line, Case, no_run, bel
 use Rattle.due.specs.Fractions.{none_too, made_same}
 use Rattle.due.specs.declared.Answer.{Answer}
 use Rattle.due.specs.declared.Index.{Index}
-use Rattle.due.specs.declared.Index.TheVariants as index
 
 -- ---- answers with a line
 nearest_once : {f h : Fraction} {s t : ℕ} → f ≡ h → Nearest (100000 * nat_abs f.num) f.den s → Nearest (100000 * nat_abs h.num) h.den t → s ≡ t

@@ -17,7 +17,7 @@ use Rattle.fit.specs.Once.{same_largest}
 use Rattle.bands.specs.Through.{LargestOf, scatter}
 use Rattle.bands.specs.Limited.{same_limit_points, same_scatter, largest_agree}
 use Rattle.bands.specs.Admitted.{proper_means}
-use Rattle.due.specs.Due.{Best, Independent, Shifted, Fits, Many, SeveralFit}
+use Rattle.due.specs.Due.{Best, Independent, Fits, Many, SeveralFit}
 use Rattle.due.specs.DueLaws.{best_points, many_points, best_parallel}
 use Rattle.due.specs.declared.Index.{Index}
 use Rattle.due.specs.declared.Index.TheVariants as index

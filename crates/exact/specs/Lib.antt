@@ -1,9 +1,7 @@
 pub mod Divisor
 pub mod Value
 pub mod Rounding
-pub mod RoundingLaws
 pub mod Euclid
 pub mod Terms
 pub mod Once
 pub mod Exists
-pub mod Vectors

@@ -1,9 +1,8 @@
 -- Only one answer fits each public statement of this crate.
-use Rattle.std.specs.Prelude.{◌≡◌, refl, ◌∷◌, [], ℕ, ◌+◌, ◌*◌, ◌/◌, ◌<◌, ◌≤◌, ℤ, pos, nat_abs, ◌*ℤ◌}
-use Rattle.std.proofs.Common.{sym, ap, ◌∙◌, subst, ⊎_elim, arith}
+use Rattle.std.specs.Prelude.{◌≡◌, ◌∷◌, [], ℕ, ◌*◌, ◌<◌, ℤ, pos, nat_abs, ◌*ℤ◌}
+use Rattle.std.proofs.Common.{sym, ap, ◌∙◌, subst, ⊎_elim}
 use Rattle.std.specs.Int.{◌∣◌}
 use Rattle.std.proofs.Math.Nat as N
-use Rattle.std.proofs.Math.Decide.{dec_lt}
 use Rattle.std.proofs.Math.IntN.{*ℤ_comm}
 use Rattle.whole.specs.Poly.{var, ◌⊗◌}
 use Rattle.whole.specs.Ring.{ring}
@@ -12,11 +11,7 @@ use Rattle.whole.specs.Size.{size_product}
 use Rattle.exact.specs.Divisor.{Gcd}
 use Rattle.exact.specs.Euclid.{gcd_same, coprime_divides}
 use Rattle.exact.specs.Value.{SameWorth, Lowest, Made, nought}
-use Rattle.exact.specs.Rounding.{distance, Nearest, PercentDue}
-use Rattle.exact.specs.RoundingLaws.{distance_is}
 use Rattle.exact.specs.declared.Fraction.{Fraction}
-use Rattle.exact.specs.declared.Percent.{Percent}
-use Rattle.exact.specs.declared.Percent.TheVariants.{Thousandths, Untold}
 
 -- `divisor`
 pub one_divisor : {a b g h : ℕ} → Gcd a b g → Gcd a b h → g ≡ h
@@ -51,31 +46,3 @@ one_fraction {n} {d} {f} {g} a b = ⊎_elim (λ e. a.none e ∙ sym (b.none e)) 
         ∙ ring (pos g.den ∷ n ∷ pos f.den ∷ []) (var 0 ⊗ (var 1 ⊗ var 2)) (var 2 ⊗ (var 1 ⊗ var 0)) tt
         ∙ ap (λ (t : ℤ). pos f.den *ℤ t) (sym (b.worth p))
         ∙ ring (pos f.den ∷ g.num ∷ pos d ∷ []) (var 0 ⊗ (var 1 ⊗ var 2)) (var 2 ⊗ (var 1 ⊗ var 0)) tt))
-
--- the rule of rounding, and so `nearest`: between two different even numbers that are equally near lies another, which is nearer
-pub one_nearest : {v d s t : ℕ} → Nearest v d s → Nearest v d t → s ≡ t
-one_nearest {v} {d} {s} {t} a b = N.le_antisymm (not_more a b) (not_more b a)
-  where
-    not_more : {s t : ℕ} → Nearest v d s → Nearest v d t → s ≤ t
-    not_more {s} {t} a b = go (dec_lt t s)
-      where
-        alike : distance v d s ≡ distance v d t
-        alike = N.le_antisymm (a.near t) (b.near s)
-
-        go : Dec (t < s) → s ≤ t
-        go (no h) = omega arith
-        go (yes h) =
-            let s_even = N.mod-eq-zero_of_dvd 2 (a.even t (λ e. omega arith) (sym alike)) in
-            let t_even = N.mod-eq-zero_of_dvd 2 (b.even s (λ e. omega arith) alike) in
-            let apart : t * d < s * d = N.mul-lt-mul_of_pos_right h a.some in
-            let u = (s + t) / 2 in
-            let twice : 2 * u ≡ s + t = omega arith in
-            let e : ⊥ = omega (arith, alike, distance_is v d s, distance_is v d t, distance_is v d u, a.near u, ap (λ (k : ℕ). k * d) twice) in
-            absurd e
-
--- `thousandths`
-pub one_percent : (f : Fraction) (p q : Percent) → PercentDue f p → PercentDue f q → p ≡ q
-one_percent f (Thousandths s) (Thousandths t) a b = ap Thousandths (one_nearest a.1 b.1)
-one_percent f (Thousandths s) Untold a b = absurd (b a.0)
-one_percent f Untold (Thousandths t) a b = absurd (a b.0)
-one_percent f Untold Untold a b = refl

@@ -5,11 +5,11 @@ use Rattle.whole.specs.Sign.{positive_nat, nat_nonneg}
 use Rattle.exact.specs.Value.{Made}
 use Rattle.exact.specs.Once.{same_terms}
 use Rattle.exact.specs.declared.Fraction.{Fraction}
-use Rattle.band.specs.Line.{Line, Points, Proper, OneValue, Parallel, Largest, Several, Same, Terminal}
+use Rattle.band.specs.Line.{Line, Points, Proper, OneValue, Parallel, Largest, Same, Terminal}
 use Rattle.band.specs.Same.{through, same_sym, same_within, exclusive, width_same}
 use Rattle.band.specs.Largest.{largest_same}
 use Rattle.band.specs.Least.{least, all_single}
-use Rattle.band.specs.Terminal.{terminal, terminal_same}
+use Rattle.band.specs.Terminal.{terminal_same}
 use Rattle.band.specs.Shift.{Range, moved, moved_parallel, moved_within, moved_least, moved_single, shift_wide, shift_part}
 use Rattle.fit.specs.Answer.{Told, line_of, TheLine, OnlyWidth, BestDue, TerminalDue, TheShifted, ShiftedDue}
 use Rattle.fit.specs.Scaled.{within_alike, several_alike, parallel_same, least_family, single_family}

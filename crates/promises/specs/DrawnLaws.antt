@@ -8,7 +8,7 @@ use Rattle.whole.specs.Ring.{ring}
 use Rattle.whole.specs.Sign.{positive_nat, nat_nonneg, cancel_zero}
 use Rattle.exact.specs.Value.{Made}
 use Rattle.exact.specs.Exists.{some_made}
-use Rattle.exact.specs.RoundingLaws.{some_nearest}
+use Rattle.exact.proofs.RoundingLaws.{some_nearest}
 use Rattle.exact.specs.declared.Fraction.{Fraction}
 use Rattle.run.specs.declared.Run.{Run}
 use Rattle.band.specs.Line.{Line, Points}

@@ -4,8 +4,8 @@ use Rattle.std.proofs.Common.{sym, ap, ◌∙◌, subst, arith, lt-ltb, le-ltb}
 use Rattle.std.proofs.Math.Option.{some}
 use Rattle.whole.specs.Flags.{cond_yes, cond_no}
 use Rattle.exact.specs.Rounding.{Nearest, Told, PercentDue}
-use Rattle.exact.specs.RoundingLaws.{some_nearest}
-use Rattle.exact.specs.Once.{one_percent}
+use Rattle.exact.proofs.RoundingLaws.{some_nearest}
+use Rattle.exact.proofs.RoundingOnce.{one_percent}
 use Rattle.exact.specs.declared.Percent.{Percent}
 use Rattle.exact.specs.declared.Percent.TheVariants.{Thousandths}
 use Rattle.run.specs.Checks.{verdict}

@@ -5,7 +5,7 @@ use Rattle.std.proofs.Math.Decide.{ℕ_discrete}
 use Rattle.std.proofs.Math.IntN.{ℤ_discrete}
 use Rattle.std.specs.Int.Signed.{clash_ℤ}
 use Rattle.whole.specs.Sign.{le_or_gt}
-use Rattle.exact.specs.RoundingLaws.{some_nearest}
+use Rattle.exact.proofs.RoundingLaws.{some_nearest}
 use Rattle.run.specs.Run.{input}
 use Rattle.run.specs.Checks.{verdict}
 use Rattle.run.specs.Checked.{Checked, checked}

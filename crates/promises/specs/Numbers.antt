@@ -5,8 +5,8 @@ use Rattle.std.proofs.Math.IntN.{ℤ_discrete}
 use Rattle.whole.specs.Flags.{cond_ind}
 use Rattle.exact.specs.Value.{nought}
 use Rattle.exact.specs.Rounding.{Nearest}
-use Rattle.exact.specs.RoundingLaws.{some_nearest}
-use Rattle.exact.specs.Once.{one_nearest}
+use Rattle.exact.proofs.RoundingLaws.{some_nearest}
+use Rattle.exact.proofs.RoundingOnce.{one_nearest}
 use Rattle.exact.specs.declared.Fraction.{Fraction}
 use Rattle.run.specs.Run.{zeros}
 use Rattle.run.specs.Checked.{verdict_ind}

@@ -10,7 +10,7 @@ use Rattle.exact.specs.Divisor.{Gcd}
 use Rattle.exact.specs.Euclid.{gcd_zero, gcd_step}
 use Rattle.exact.specs.Value.{Made, nought}
 use Rattle.exact.specs.Rounding.{Nearest}
-use Rattle.exact.specs.RoundingLaws.{some_nearest}
+use Rattle.exact.proofs.RoundingLaws.{some_nearest}
 use Rattle.exact.specs.declared.Fraction.{Fraction}
 use Rattle.run.specs.declared.Run.{Run}
 use Rattle.band.specs.Line.{Line}

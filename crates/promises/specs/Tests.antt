@@ -3,7 +3,7 @@ use Rattle.std.specs.Prelude.{Bool, true, false, cond, not, ◌&&◌, ◌||◌, 
 use Rattle.std.proofs.Common.{arith}
 use Rattle.std.specs.Int.Signed.{le_z, lt_z}
 use Rattle.whole.specs.Every.{every}
-use Rattle.exact.specs.RoundingLaws.{some_nearest}
+use Rattle.exact.proofs.RoundingLaws.{some_nearest}
 use Rattle.exact.specs.declared.Fraction.{Fraction}
 use Rattle.run.specs.declared.Run.{Run}
 use Rattle.groups.specs.LimitTest.{smallest}

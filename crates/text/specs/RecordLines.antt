@@ -54,13 +54,13 @@ module _ (f : ℕ → Said → List Labelled) (P : Said → Record → Type 0) (
   -- what is gathered has the number of the line that brings it
   pub gathered_line : (k : ℕ) (hs : List Said) (x : Labelled) → Memᴰ x (gathered f k hs) → Line k hs x.label (λ h. P h x.it)
   unfolding gathered
-  gathered_line k [] x m = absurd (Memᴰ.not_nil m)
+  gathered_line k [] x m = absurd (Memᴰ.not-nil m)
   gathered_line k (h ∷ hs) x m = go (Memᴰ.append_cases (f k h) m) (brings k h) (gathered_line (suc k) hs x)
     where
       go : Memᴰ x (f k h) ⊎ Memᴰ x (gathered f (suc k) hs) → OneAt k (P h) (f k h)
           → (Memᴰ x (gathered f (suc k) hs) → Line (suc k) hs x.label (λ g. P g x.it)) → Line k (h ∷ hs) x.label (λ g. P g x.it)
       go (inr n) b later = line_later (later n)
-      go (inl n) (inl e) later = absurd (Memᴰ.not_nil (subst (Memᴰ x) e n))
+      go (inl n) (inl e) later = absurd (Memᴰ.not-nil (subst (Memᴰ x) e n))
       go (inl n) (inr b) later =
           let e : x ≡ at_label k b.0 = Memᴰ.eq_of_singleton (subst (Memᴰ x) b.1 n) in
           line_here (ap (λ (y : Labelled). y.label) e) (subst (P h) (sym (ap (λ (y : Labelled). y.it) e)) b.2)

@@ -23,7 +23,7 @@ ordered_append (x ∷ xs) ys a b r =
 
 -- one record in front of another, and one behind it
 ordered_front : (before : List Labelled) (it : Labelled) (after : List Labelled) → Ordered (before ++ (it ∷ after)) → (x : Labelled) → Memᴰ x before → InOrder x it
-ordered_front [] it after o x m = absurd (Memᴰ.not_nil m)
+ordered_front [] it after o x m = absurd (Memᴰ.not-nil m)
 ordered_front (z ∷ before) it after o x m =
     ⊎_elim (λ (e : x ≡ z). subst (λ (y : Labelled). InOrder y it) (sym e) (o.0 it (Memᴰ.append_right before (Memᴰ.head refl))))
     (ordered_front before it after o.1 x)
@@ -55,7 +55,7 @@ module _ (hs : List Said) where
   text_ordered : Ordered (text hs).records
   text_ordered =
       ordered_append (openings hs) (entries hs ++ last hs) (gathered_ordered opening_at Opens opening_brings (λ h x y a l. opening_first x y a.1) 1 hs)
-      (ordered_append (entries hs) (last hs) (gathered_ordered entry_at Enters entry_brings (λ h x y a l. entry_first x y a.1 (λ e q. l)) 1 hs) ((λ y m. absurd (Memᴰ.not_nil m)), tt)
+      (ordered_append (entries hs) (last hs) (gathered_ordered entry_at Enters entry_brings (λ h x y a l. entry_first x y a.1 (λ e q. l)) 1 hs) ((λ y m. absurd (Memᴰ.not-nil m)), tt)
       (λ x y m n. entry_first x y (entered_by hs x m).holds.1 (λ e q. absurd (entry_open (sym q ∙ last_close hs y n)))))
       (λ x y m n. opening_first x y (opened_by hs x m).holds.1)
 

@@ -1,6 +1,6 @@
 -- `bands::pairs_of` meets its contract: each turn stores the lower and the higher value of one point more.
 use mathlib.Core.Path.{◌≡◌, ap₂, ◌∙◌}
-use Prim.Native.Nat.{◌-◌, ◌<◌}
+use Prim.Native.Nat.{◌<◌}
 use native.Mathlib.Omega.{arith}
 use Rattle.whole.specs.Filled.{filled_more}
 use lib.IntN.{◌+ℤ◌, ◌-ℤ◌}

@@ -1,6 +1,5 @@
 -- `bands::widest` meets its contract. The sum kept is the largest of the widths so far.
 use mathlib.Core.Path.{ap₂, ◌∙◌}
-use Prim.Native.Nat.{◌-◌}
 use lib.IntN.{pos}
 use Rattle.units.specs.declared.Sum.{Sum}
 use Rattle.bands.specs.Lent.{apart}

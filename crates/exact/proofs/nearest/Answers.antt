@@ -1,6 +1,6 @@
 -- `exact::nearest` meets its contract: v is whole·d + rest, and rest is compared with what it lacks to d. Which number is then due is said by the laws of the rule.
 use native.Mathlib.Nat.{le_antisymm}
-use Rattle.exact.specs.RoundingLaws.{nearest_below, nearest_above, nearest_even}
+use Rattle.exact.proofs.RoundingLaws.{nearest_below, nearest_above, nearest_even}
 use Rattle.exact.proofs.nearest.Goals as goal
 
 pub returns-then-rest-lacks : goal.returns-then-rest-lacks

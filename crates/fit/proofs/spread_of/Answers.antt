@@ -1,6 +1,6 @@
 -- `fit::spread_of` meets its contract: the spread so far holds the smallest and the largest of the heights so far, and the first of them is zero.
 use mathlib.Core.Path.{ap₂, ◌∙◌}
-use Prim.Native.Nat.{◌-◌, ◌<◌}
+use Prim.Native.Nat.{◌<◌}
 use native.Mathlib.Omega.{arith}
 use borrow.Author.Rules.{rules}
 use lib.IntN.{ℤ, ◌-ℤ◌, ◌*ℤ◌}

@@ -1,5 +1,4 @@
 -- `fit::terminal_of` meets its contract: the heights above the terminal line are known to range from `lo` to `hi`, and so `Due` has it that the numbers tell the terminal line.
-use Prim.Native.Nat.{◌-◌}
 use Rattle.fit.specs.Ends.{Ready}
 use Rattle.fit.specs.EndsLaws.{ready}
 use Rattle.fit.specs.PartsLaws.{tells_parts}

@@ -1,6 +1,6 @@
 -- `search::highest` meets its contract: over the inputs that were passed no chord has a larger numerator than the one that is held, and all have the same gap.
 use mathlib.Core.Path.{◌≡◌, refl, sym, ap₂, ◌∙◌, subst}
-use Prim.Native.Nat.{ℕ, ◌-◌, ◌<◌}
+use Prim.Native.Nat.{ℕ, ◌<◌}
 use native.Mathlib.Omega.{arith}
 use borrow.Author.Rules.{rules}
 use lib.IntN.{ℤ, ◌-ℤ◌}

@@ -1,5 +1,4 @@
 -- `search::over_all` meets its contract: first every input, then the chords from every input that was passed, are below the candidate that is held.
-use Prim.Native.Nat.{◌-◌}
 use native.Mathlib.Omega.{arith}
 use Rattle.search.specs.OverLaws.{starts_more}
 use Rattle.search.proofs.over_all.Goals as goal

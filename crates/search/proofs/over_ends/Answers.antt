@@ -1,5 +1,4 @@
 -- `search::over_ends` meets its contract: the chords to every input that was passed are below the candidate that is held, and nothing that was below the old one is lost.
-use Prim.Native.Nat.{◌-◌}
 use native.Mathlib.Omega.{arith}
 use Rattle.search.specs.OverLaws.{ends_more}
 use Rattle.search.proofs.over_ends.Goals as goal

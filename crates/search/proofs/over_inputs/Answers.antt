@@ -1,5 +1,4 @@
 -- `search::over_inputs` meets its contract: every input that was passed is below the one that is held.
-use Prim.Native.Nat.{◌-◌}
 use native.Mathlib.Omega.{arith}
 use Rattle.search.specs.OverLaws.{both_sizes, singles_more}
 use Rattle.search.proofs.over_inputs.Goals as goal
