@@ -1,5 +1,5 @@
 """The test command: `make test`. Its last line is 'N passed, 0 failed' only where all of this held:
-the files are laid out as `rt fmt` lays them, `rt ci` ended with status 0 and its own such line, and every comparison with the second program and with the sheets worked by hand ran and agreed, and every line of a work sheet keeps to its rules."""
+`rt ci` ended with status 0 and its own such line, with no must-fail edit that counts for nothing, and every comparison with the second program and with the sheets worked by hand ran and agreed, and every line of a work sheet keeps to its rules."""
 import concurrent.futures
 import os
 import re
@@ -50,23 +50,20 @@ def check_toolchain():
     say('The README names %s. The proofs are tried all the same, and hold only if they pass here.' % pinned())
 
 
-def check_layout():
-    done = subprocess.run(['rt', 'fmt', '--check'], cwd=ROOT, capture_output=True, text=True)
-    if done.returncode != 0:
-        stop('rt fmt --check: ' + (done.stdout + done.stderr).strip())
-
-
 def prove():
-    """Runs rt ci, shows what it says, and returns how many things it passed."""
-    last = ''
+    """Runs rt ci, which refuses what is not laid out too, shows what it says, and returns how many things it passed. An edit that counts for nothing ends the gate as well."""
+    last, bad = '', False
     with subprocess.Popen(['rt', 'ci'], cwd=ROOT, stdout=subprocess.PIPE, stderr=subprocess.STDOUT, text=True, errors='replace') as ci:
         for text in ci.stdout:
             last = text.rstrip('\n')
+            bad = bad or (last.startswith('rt: ok') and bool(re.search(r', [1-9]\d* bad', last)))
             if not re.match(r'\d+ passed, \d+ failed$', last):
                 say(last)
     passed = re.match(r'(\d+) passed, 0 failed$', last)
     if ci.returncode != 0 or not passed:
         stop('rt ci ended with status %d and the line %r' % (ci.returncode, last))
+    if bad:
+        stop('rt ci tells of must-fail edits that count for nothing')
     return int(passed.group(1))
 
 
@@ -94,7 +91,6 @@ def compared():
 def main():
     began = time.time()
     check_toolchain()
-    check_layout()
     passed = prove()
     proved = time.time()
     for comparison, (count, wrong, told) in zip(COMPARISONS, compared()):

@@ -1,6 +1,5 @@
 -- `seek::line_of_point` meets its contract: the search of the lines still to come is that of the whole text.
 use mathlib.Core.Path.{sym, ◌∙◌}
-use Prim.Native.Nat.{◌-◌}
 use native.Mathlib.Omega.{arith}
 use Rattle.typed_text.specs.HeardLaws.{Next, heard_next, heard_end}
 use Rattle.typed_text.specs.SeekLaws.{point_none, point_found, point_passed}

@@ -1,0 +1,16 @@
+-- `place_text::place` meets its contract: the lines fit, and go to the front of the buffer.
+use mathlib.Core.Path.{ap, ◌∙◌}
+use mathlib.Core.List.{List}
+use Prim.Native.Nat.{ℕ}
+use Rattle.plain.specs.GrownLaws.{put_all}
+use Rattle.plain.specs.Plain.{printed, buffer_after}
+use Rattle.place_text.specs.Words.{place_fits}
+use Rattle.place_text.proofs.place.Goals as goal
+
+pub returns : goal.returns
+returns c =
+    let p = c in
+    let t = c in
+    let a = t.args in
+    let all = put_all t.put_place-len.ensures (place_fits a.file.now) in
+    record { answer = p.print.ensures.answer ∙ ap (λ (l : List ℕ). printed l a.out.now) all; after = p.print.ensures.after ∙ ap (λ (l : List ℕ). buffer_after l a.out.now) all }

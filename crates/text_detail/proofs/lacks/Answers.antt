@@ -1,0 +1,13 @@
+-- `text_detail::lacks` meets its contract: the first place without a label, of a run with the sizes that the survey found.
+use Rattle.detail.specs.Arrays.{blank_marked}
+use Rattle.text_detail.specs.TellLaws.{sizes_room, lacks_told}
+use Rattle.text_detail.proofs.lacks.Goals as goal
+
+pub mark_lines-requires : goal.mark_lines-requires
+mark_lines-requires c = blank_marked
+
+pub missing-requires : goal.missing-requires
+missing-requires c = let o = c in sizes_room o.look_over-t.ensures o.requires.1
+
+pub returns : goal.returns
+returns c = let a = c in lacks_told a.look_over-t.ensures a.mark_lines.ensures c.missing.ensures
