@@ -6,9 +6,7 @@ pub mod EnumLaws
 pub mod Figures
 pub mod Demand1
 pub mod Exactly
-pub mod Demand1Holds
 pub mod Demand2
-pub mod MovedLaws
 pub mod FileLaws
 pub mod FileBytes
 pub mod SameVerdict
@@ -17,15 +15,9 @@ pub mod SameAnswer
 pub mod SameAverages
 pub mod SameFile
 pub mod Within
-pub mod Demand2Holds
 pub mod Demand3
 pub mod Kept
-pub mod Demand3Holds
-pub mod Certified
 pub mod Ascii
-pub mod PaperSheet
-pub mod MoreSheets
-pub mod UpOnly
 pub mod Edges
 pub mod FileVectors
 pub mod ReportedLaws
@@ -46,4 +38,3 @@ pub mod LineLaws
 pub mod PinLaws
 pub mod LimitLaws
 pub mod Certificate
-pub mod CertificateLaws

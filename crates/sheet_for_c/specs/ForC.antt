@@ -1,4 +1,4 @@
--- The sheet of a byte string as a program in C gets it. Definitions, and that only one answer fits.
+-- The sheet of a byte string as a program in C gets it. Definitions; that only one answer fits is in proofs/Once.
 use Rattle.std.specs.Prelude.{◌≡◌, refl, List, ◌++◌, ℕ, ◌<◌, ◌≤◌, length, drop}
 use Rattle.std.proofs.Common.{sym, ap, ◌∙◌, arith, length-drop, length-append}
 use Rattle.plain.specs.declared.Printed.{Printed}
@@ -10,30 +10,3 @@ use Rattle.sheet_text.specs.Once.{one_print}
 pub data Handed (s before after : List ℕ) (n : ℕ) : Type 0 where
   fits : (t : List ℕ) → SheetDue s t → length t ≤ length before → n ≡ length t → after ≡ t ++ drop (length t) before → Handed s before after n
   short : (t : List ℕ) → SheetDue s t → length before < length t → n ≡ 0 → after ≡ before → Handed s before after n
-
--- what `sheet` prints is handed on
-pub handed : {s before after : List ℕ} {q : Printed} → PrintDue s before after q → Handed s before after q.len
-handed (S.fits t d h e f) = fits t d h (ap (λ (q : Printed). q.len) e) f
-handed (S.short t d h e f) = short t d h (ap (λ (q : Printed). q.len) e) f
-
--- the other way, for the number that belongs to it
-printed : {s before after : List ℕ} {n : ℕ} → Handed s before after n → (q : Printed) × PrintDue s before after q × (n ≡ q.len)
-printed (fits t d h e f) = (record { number = 0; len = length t }, S.fits t d h refl f, e)
-printed (short t d h e f) = (record { number = 14; len = 0 }, S.short t d h refl f, e)
-
--- two lengths and two buffers are one
-pub record OneHanded (n m : ℕ) (after behind : List ℕ) : Type 0 where
-  pub length_is : n ≡ m
-  pub buffer : after ≡ behind
-
-pub one_handed : {s before after behind : List ℕ} {n m : ℕ} → Handed s before after n → Handed s before behind m → OneHanded n m after behind
-one_handed a b =
-    let p = printed a in
-    let q = printed b in
-    let one = one_print p.1 q.1 in
-    record { length_is = p.2 ∙ ap (λ (q : Printed). q.len) one.answer ∙ sym q.2; buffer = one.buffer }
-
--- a lent buffer stays as long as it was
-pub handed_length : {s before after : List ℕ} {n : ℕ} → Handed s before after n → length after ≡ length before
-handed_length {before = before} (fits t d h e f) = ap length f ∙ length-append t (drop (length t) before) ∙ omega (arith, length-drop (length t) before)
-handed_length (short t d h e f) = ap length f

@@ -23,10 +23,10 @@ use Rattle.sheet_text.specs.Sheet.{lines, SheetDue}
 use Rattle.promises.specs.Figures.{over, whole, fields, middle}
 use Rattle.promises.specs.Tests.{divisor}
 use Rattle.promises.specs.Certificate.{Certificate, one_line, far, ends, best, zero, front, swings, varies, lh, lhr, certifies}
-use Rattle.promises.specs.CertificateLaws.{certified}
-use Rattle.promises.specs.Certified.{sample_limits}
+use Rattle.promises.proofs.CertificateLaws.{certified}
+use Rattle.promises.proofs.Certified.{sample_limits}
 use Rattle.promises.specs.Ascii.{printed}
-use Rattle.promises.specs.PaperSheet.{sheet_of_run}
+use Rattle.promises.proofs.PaperSheet.{sheet_of_run}
 
 -- a run of two strokes is not one of an up stroke only
 two_not_one : ◌≡◌ {A = ℕ} 2 1 → ⊥

@@ -10,7 +10,7 @@ use Rattle.due.specs.Due.{Due}
 use Rattle.promises.specs.Figures.{Figure, figures}
 use Rattle.promises.specs.Tests.{line, divisor}
 use Rattle.promises.specs.Certificate.{Certificate, one_line, zero_several, lh_several, far, ends, best, zero, front, swings, varies, lh, lhr, Limits, certifies}
-use Rattle.promises.specs.CertificateLaws.{certified}
+use Rattle.promises.proofs.CertificateLaws.{certified}
 
 -- P of each
 abbrev pub Each : {A : Type 0} → (A → Type 0) → List A → Type 0

@@ -22,7 +22,7 @@ use Rattle.due.specs.declared.Index.TheVariants as index
 use Rattle.sheet_text.specs.Sheet.{lines, SheetDue, accepted}
 use Rattle.sheet_text.specs.Once.{one_sheet}
 use Rattle.promises.specs.Figures.{Figure, figures}
-use Rattle.promises.specs.Certified.{Each, figures_due}
+use Rattle.promises.proofs.Certified.{Each, figures_due}
 use Rattle.promises.specs.Ascii.{printed}
 
 -- ---- any run that no check refuses, with zeros beyond its points, cycles and strokes: the sheet of its file has the lines of the answers that are due for it

@@ -24,8 +24,8 @@ use Rattle.promises.specs.Figures.{over, whole, fields}
 use Rattle.promises.specs.Tests.{divisor}
 use Rattle.promises.specs.Certificate.{one_line, far, ends, best, zero, front}
 use Rattle.promises.specs.Ascii.{printed}
-use Rattle.promises.specs.PaperSheet.{sheet_of_run}
-use Rattle.promises.specs.MoreSheets.{by}
+use Rattle.promises.proofs.PaperSheet.{sheet_of_run}
+use Rattle.promises.proofs.MoreSheets.{by}
 
 -- inputs 0, 10, 20, one cycle, readings 0, 106, 200 up
 abbrev pub up_only : Run

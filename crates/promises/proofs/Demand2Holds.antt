@@ -26,7 +26,7 @@ use Rattle.due.specs.declared.Answer.{Answer}
 use Rattle.due.specs.declared.Index.{Index}
 use Rattle.promises.specs.Reported.{Reports}
 use Rattle.promises.specs.ReportedLaws.{the_independent, the_zero, the_front}
-use Rattle.promises.specs.MovedLaws.{made_is, the_shifted}
+use Rattle.promises.proofs.MovedLaws.{made_is, the_shifted}
 use Rattle.promises.specs.FileLaws.{written_back, same_records, longest_accepted}
 use Rattle.promises.specs.FileBytes.{file_bytes}
 use Rattle.promises.specs.EnumLaws.{same_answers}

@@ -1,0 +1,9 @@
+pub mod Demand1Holds
+pub mod MovedLaws
+pub mod Demand2Holds
+pub mod Demand3Holds
+pub mod Certified
+pub mod PaperSheet
+pub mod MoreSheets
+pub mod UpOnly
+pub mod CertificateLaws
