@@ -44,9 +44,9 @@ def check_machine():
 
 # Building
 
-def run(*words):
+def run(*words, folder=ROOT):
     """Runs a tool; what it says is no part of what is printed here."""
-    if subprocess.run(words, cwd=ROOT, stdin=subprocess.DEVNULL, stdout=sys.stderr).returncode != 0:
+    if subprocess.run(words, cwd=folder, stdin=subprocess.DEVNULL, stdout=sys.stderr).returncode != 0:
         stop('%s failed.' % ' '.join(os.path.basename(word) for word in words[:3]))
 
 
@@ -55,22 +55,29 @@ def made(name):
 
 
 def newest_source():
-    folders = [os.path.join(path, name) for path, _, names in os.walk(os.path.join(ROOT, 'crates')) for name in names]
-    return max(os.path.getmtime(path) for path in folders + [os.path.join(ROOT, 'crates.txt')])
+    sources = [os.path.join(ROOT, 'crates.txt')]
+    for path, folders, names in os.walk(os.path.join(ROOT, 'crates')):
+        # what the prover keeps is no source
+        folders[:] = [folder for folder in folders if folder != 'out']
+        sources += [os.path.join(path, name) for name in names]
+    return max(os.path.getmtime(path) for path in sources)
 
 
-def proved(path, *words):
-    """What the toolchain makes, proved and made anew where a source is newer."""
+def proved(crate, file, word):
+    """What the toolchain makes of a crate, proved and made anew where a source is newer."""
+    folder = os.path.join(ROOT, 'crates', crate)
+    path = os.path.join(folder, 'out', file)
     if not os.path.exists(path) or os.path.getmtime(path) < newest_source():
         print('speed: %s is proved and built first, which may take some minutes' % os.path.basename(path), file=sys.stderr, flush=True)
-        run('rt', *words)
+        # rt runs a program after it has built it
+        run('rt', word, folder=folder)
         os.utime(path)
     return path
 
 
 def archive_object(crate, exported):
     """One object of an archive, in which the exported function alone is seen from outside: two archives have helpers of the same names."""
-    archive = proved(os.path.join(TARGET, 'staticlib', 'lib%s.a' % crate), 'staticlib', crate)
+    archive = proved(crate, 'lib%s.a' % crate, 'lib')
     whole, out = made(crate + '_whole.o'), made(crate + '.o')
     run('cc', '-r', '-nostdlib', '-Wl,--whole-archive', archive, '-o', whole)
     run('objcopy', '--keep-global-symbol=' + exported, whole, out)
@@ -81,7 +88,7 @@ def build():
     """The harness, C's program and ours."""
     os.makedirs(MADE, exist_ok=True)
     ours = [archive_object(*names) for names in ARCHIVES.items()]
-    program = proved(os.path.join(TARGET, 'bin', PROGRAM), 'check', PROGRAM)
+    program = proved(PROGRAM, PROGRAM, 'run')
     sources = {name: os.path.join(HERE, name + '.c') for name in ('sheet', 'main', 'beside')}
     harness, c_program = made('beside'), made('c_sheet')
     # the function is compiled by itself, as ours is, so that nothing of it is drawn into its caller
