@@ -1,5 +1,5 @@
 -- What `sheet` prints is handed on, and only one answer fits.
-use Rattle.std.specs.Prelude.{◌≡◌, refl, List, ◌++◌, ℕ, ◌<◌, ◌≤◌, length, drop}
+use Rattle.std.specs.Prelude.{◌≡◌, refl, List, ℕ, length, drop}
 use Rattle.std.proofs.Common.{sym, ap, ◌∙◌, arith, length-drop, length-append}
 use Rattle.plain.specs.declared.Printed.{Printed}
 use Rattle.sheet_text.specs.Sheet.{SheetDue, PrintDue}

@@ -1,10 +1,6 @@
 -- The sheet of a byte string as a program in C gets it. Definitions; that only one answer fits is in proofs/Once.
-use Rattle.std.specs.Prelude.{◌≡◌, refl, List, ◌++◌, ℕ, ◌<◌, ◌≤◌, length, drop}
-use Rattle.std.proofs.Common.{sym, ap, ◌∙◌, arith, length-drop, length-append}
-use Rattle.plain.specs.declared.Printed.{Printed}
-use Rattle.sheet_text.specs.Sheet.{SheetDue, PrintDue}
-use Rattle.sheet_text.specs.Sheet as S
-use Rattle.sheet_text.specs.Once.{one_print}
+use Rattle.std.specs.Prelude.{◌≡◌, List, ◌++◌, ℕ, ◌<◌, ◌≤◌, length, drop}
+use Rattle.sheet_text.specs.Sheet.{SheetDue}
 
 -- the sheet of s is put at the front of a lent buffer, what stood behind it stays, and n is its length; where the buffer is too short n is 0, and it stays as it was
 pub data Handed (s before after : List ℕ) (n : ℕ) : Type 0 where

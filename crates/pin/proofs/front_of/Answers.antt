@@ -24,14 +24,17 @@ pinned-requires c =
     let i = c in
     let s = c in
     let h = s.requires in
-    let any : 0 < s.args.m = omega (arith, h.0.three) in record { ready = (
+    let any : 0 < s.args.m = omega (arith, h.0.three) in record {
+      ready = (
         record {
           admitted = h.0;
           x_most = subst (λ (u : Input). nat_abs u.count ≤ most_x) (sym i.input_at.ensures) (h.0.inputs 0 any);
           v_most = subst (λ (u : Part). nat_abs u.count ≤ most_v) (sym c.part_at.ensures) (h.0.lows 0 any);
         },
         subst (λ (u : Input). Beyond (P (goal.at.pinned-requires c).Start) u.count) (sym i.input_at.ensures) (beyond_first h.0.proper (≤ℤ_refl ((P (goal.at.pinned-requires c).Start).x 0))),
-      ); one_value = h.1 }
+      );
+      one_value = h.1;
+    }
 
 pub returns : goal.returns
 returns c =

@@ -1,6 +1,6 @@
 -- `pin::greatest` meets its contract: before each turn the pairs of the inputs up to i with later ones are tried, and at the end every pair is, in one order.
 use mathlib.Core.Path.{◌≡◌, subst}
-use Prim.Native.Nat.{ℕ, ◌-◌}
+use Prim.Native.Nat.{ℕ}
 use native.Mathlib.Omega.{arith}
 use Rattle.band.specs.Band.{lent}
 use Rattle.pin.specs.Search.{Firsts}

@@ -1,5 +1,4 @@
 -- `pin::over_partners` meets its contract: before each turn the pairs of i with the inputs up to j are tried.
-use Prim.Native.Nat.{◌-◌}
 use native.Mathlib.Omega.{arith}
 use Rattle.pin.specs.SearchLaws.{later_fits, partners_more}
 use Rattle.pin.proofs.over_partners.Goals as goal
