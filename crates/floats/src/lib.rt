@@ -1,0 +1,2 @@
+// What a float is, said in whole numbers: theory only, without code.
+#![tactic(auto)]
