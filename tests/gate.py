@@ -67,6 +67,16 @@ def prove():
     return int(passed.group(1))
 
 
+def build():
+    """Each program once, with nothing to read, so that it is built before what it prints and says is compared: rt ci leaves none behind."""
+    crates = os.path.join(ROOT, 'crates')
+    for name in sorted(os.listdir(crates)):
+        if os.path.exists(os.path.join(crates, name, 'src', 'main.rt')):
+            subprocess.run([os.path.join(ROOT, 'bench'), name], input=b'', capture_output=True)
+            if not os.path.exists(os.path.join(crates, name, 'out', name)):
+                stop('%s was not built' % name)
+
+
 def run(program, given, errors=False):
     """What a built program prints on these bytes. With errors it is what it prints and what it says on standard error, whatever its status: a refusal may be told there."""
     done = subprocess.run([os.path.join(ROOT, 'bench'), program], input=given, capture_output=True)
@@ -93,6 +103,7 @@ def main():
     check_toolchain()
     passed = prove()
     proved = time.time()
+    build()
     for comparison, (count, wrong, told) in zip(COMPARISONS, compared()):
         for text in told:
             say(text)
