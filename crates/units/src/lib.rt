@@ -9,37 +9,37 @@ ghost use Rattle.whole.specs.Machine.{Bounds};
 ghost use Rattle.units.specs.Units.{most_x, most_y, most_difference, most_difference_sum, most_square_sum, most_s, most_v, input_in, reading_in, sum_in, part_in};
 
 // An input x, in input units.
-#[derive(Clone, Copy)]
+#[derive(Clone, Copy, PartialEq, Eq, PartialOrd, Ord)]
 pub struct Input {
     pub count: i64,
 }
 
 // A single reading y, in reading units.
-#[derive(Clone, Copy)]
+#[derive(Clone, Copy, PartialEq, Eq, PartialOrd, Ord)]
 pub struct Reading {
     pub count: i64,
 }
 
 // A sum over the n cycles of a run, in sum units: one nth of a reading unit.
-#[derive(Clone, Copy)]
+#[derive(Clone, Copy, PartialEq, Eq, PartialOrd, Ord)]
 pub struct Sum {
     pub count: i64,
 }
 
 // A reading's difference to another of its group, or such differences added up, in reading units. It is no reading, since it stays as it is where all readings are shifted, and no sum of readings.
-#[derive(Clone, Copy)]
+#[derive(Clone, Copy, PartialEq, Eq, PartialOrd, Ord)]
 pub struct Difference {
     pub count: i64,
 }
 
 // The square of a difference, or such squares added up, in squares of a reading unit.
-#[derive(Clone, Copy)]
+#[derive(Clone, Copy, PartialEq, Eq, PartialOrd, Ord)]
 pub struct Square {
     pub count: i64,
 }
 
 // A value that lines are drawn past, in parts: one dth of a reading unit. The d is told beside the values: n for sums, 2n for means.
-#[derive(Clone, Copy)]
+#[derive(Clone, Copy, PartialEq, Eq, PartialOrd, Ord)]
 pub struct Part {
     pub count: i64,
 }
