@@ -23,12 +23,8 @@ pub fn means_of(m: usize, up: &[i64; 11], down: &[i64; 11], means: &mut [i64; 11
     requires { Addable m up.now × Addable m down.now × (length means.old ≡ 11) }
     ensures { Filled (mean_in up.now down.now) m means.new }
 {
-    let mut i = 0;
-    while i < m {
-        let mean = units::mean_of(sum_at(up, i), sum_at(down, i));
-        let count = mean.count;
-        means[i] = count;
-        i += 1;
+    for i in 0..m {
+        means[i] = units::mean_of(sum_at(up, i), sum_at(down, i)).count;
     }
 }
 
@@ -67,21 +63,15 @@ pub fn pairs_of(
     ensures lows { Filled (low_in up.now down.now up_limits.now down_limits.now) m low.new }
     ensures highs { Filled (high_in up.now down.now up_limits.now down_limits.now) m high.new }
 {
-    let mut i = 0;
-    while i < m {
+    for i in 0..m {
         let v = values_of(
             sum_at(up, i),
             sum_at(down, i),
             sum_at(up_limits, i),
             sum_at(down_limits, i),
         );
-        let lower = v.low;
-        let higher = v.high;
-        let l = lower.count;
-        let h = higher.count;
-        low[i] = l;
-        high[i] = h;
-        i += 1;
+        low[i] = v.low.count;
+        high[i] = v.high.count;
     }
 }
 
@@ -102,10 +92,8 @@ pub fn widest(w: Width, m: usize, up: &[i64; 11], down: &[i64; 11]) -> Sum
     ensures largest { LargestOf m (width_in w up.now down.now) (nat_abs result.count) }
 {
     let mut s = width_of(w, sum_at(up, 0), sum_at(down, 0));
-    let mut i = 1;
-    while i < m {
+    for i in 1..m {
         s = units::larger(s, width_of(w, sum_at(up, i), sum_at(down, i)));
-        i += 1;
     }
     s
 }
