@@ -12,10 +12,23 @@ ghost use Rattle.bands.specs.Lent.{mean_in, low_in, high_in, width_in, apart, Ad
 use units::{Part, Sum, sum_at};
 
 // What is largest over the points: D from U, or a limit.
+// It is an enum, and no closure that `widest` is passed, since the public contracts of `grounds` and `indices` name its two cases.
 #[derive(Clone, Copy)]
 pub enum Width {
     Swing,
     Scatter,
+}
+
+impl Width {
+    fn of(self, a: Sum, b: Sum) -> Sum
+        requires { Measurable self a.count b.count }
+        ensures { result.count ≡ pos (apart self a.count b.count) }
+    {
+        match self {
+            Width::Swing => units::distance(b, a),
+            Width::Scatter => units::larger(a, b),
+        }
+    }
 }
 
 // T at each point: U and D, the sum of the run's last stroke.
@@ -75,25 +88,15 @@ pub fn pairs_of(
     }
 }
 
-fn width_of(w: Width, a: Sum, b: Sum) -> Sum
-    requires { Measurable w a.count b.count }
-    ensures { result.count ≡ pos (apart w a.count b.count) }
-{
-    match w {
-        Width::Swing => units::distance(b, a),
-        Width::Scatter => units::larger(a, b),
-    }
-}
-
 // The largest width over the points: of D from U, or of the limits of the up stroke and of the last one.
 pub fn widest(w: Width, m: usize, up: &[i64; 11], down: &[i64; 11]) -> Sum
     requires { Wide w m up.now down.now }
     ensures sign { pos 0 ≤ℤ result.count }
     ensures largest { LargestOf m (width_in w up.now down.now) (nat_abs result.count) }
 {
-    let mut s = width_of(w, sum_at(up, 0), sum_at(down, 0));
+    let mut s = w.of(sum_at(up, 0), sum_at(down, 0));
     for i in 1..m {
-        s = units::larger(s, width_of(w, sum_at(up, i), sum_at(down, i)));
+        s = units::larger(s, w.of(sum_at(up, i), sum_at(down, i)));
     }
     s
 }
