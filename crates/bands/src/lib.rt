@@ -12,10 +12,23 @@ ghost use Rattle.bands.specs.Lent.{mean_in, low_in, high_in, width_in, apart, Ad
 use units::{Part, Sum, sum_at};
 
 // What is largest over the points: D from U, or a limit.
+// It is an enum, and no closure that `widest` is passed, since the public contracts of `grounds` and `indices` name its two cases.
 #[derive(Clone, Copy)]
 pub enum Width {
     Swing,
     Scatter,
+}
+
+impl Width {
+    fn of(self, a: Sum, b: Sum) -> Sum
+        requires { Measurable self a.count b.count }
+        ensures { result.count ≡ pos (apart self a.count b.count) }
+    {
+        match self {
+            Width::Swing => units::distance(b, a),
+            Width::Scatter => units::larger(a, b),
+        }
+    }
 }
 
 // T at each point: U and D, the sum of the run's last stroke.
@@ -23,12 +36,8 @@ pub fn means_of(m: usize, up: &[i64; 11], down: &[i64; 11], means: &mut [i64; 11
     requires { Addable m up.now × Addable m down.now × (length means.old ≡ 11) }
     ensures { Filled (mean_in up.now down.now) m means.new }
 {
-    let mut i = 0;
-    while i < m {
-        let mean = units::mean_of(sum_at(up, i), sum_at(down, i));
-        let count = mean.count;
-        means[i] = count;
-        i += 1;
+    for i in 0..m {
+        means[i] = units::mean_of(sum_at(up, i), sum_at(down, i)).count;
     }
 }
 
@@ -67,31 +76,15 @@ pub fn pairs_of(
     ensures lows { Filled (low_in up.now down.now up_limits.now down_limits.now) m low.new }
     ensures highs { Filled (high_in up.now down.now up_limits.now down_limits.now) m high.new }
 {
-    let mut i = 0;
-    while i < m {
+    for i in 0..m {
         let v = values_of(
             sum_at(up, i),
             sum_at(down, i),
             sum_at(up_limits, i),
             sum_at(down_limits, i),
         );
-        let lower = v.low;
-        let higher = v.high;
-        let l = lower.count;
-        let h = higher.count;
-        low[i] = l;
-        high[i] = h;
-        i += 1;
-    }
-}
-
-fn width_of(w: Width, a: Sum, b: Sum) -> Sum
-    requires { Measurable w a.count b.count }
-    ensures { result.count ≡ pos (apart w a.count b.count) }
-{
-    match w {
-        Width::Swing => units::distance(b, a),
-        Width::Scatter => units::larger(a, b),
+        low[i] = v.low.count;
+        high[i] = v.high.count;
     }
 }
 
@@ -101,11 +94,9 @@ pub fn widest(w: Width, m: usize, up: &[i64; 11], down: &[i64; 11]) -> Sum
     ensures sign { pos 0 ≤ℤ result.count }
     ensures largest { LargestOf m (width_in w up.now down.now) (nat_abs result.count) }
 {
-    let mut s = width_of(w, sum_at(up, 0), sum_at(down, 0));
-    let mut i = 1;
-    while i < m {
-        s = units::larger(s, width_of(w, sum_at(up, i), sum_at(down, i)));
-        i += 1;
+    let mut s = w.of(sum_at(up, 0), sum_at(down, 0));
+    for i in 1..m {
+        s = units::larger(s, w.of(sum_at(up, i), sum_at(down, i)));
     }
     s
 }

@@ -1,11 +1,7 @@
 -- `bands::pairs_of` meets its contract: each turn stores the lower and the higher value of one point more.
-use Prim.Native.Nat.{◌-◌, ◌≤◌}
 use Rattle.whole.specs.Filled.{Filled}
 use Rattle.bands.specs.Lent.{low_in, high_in}
 use Rattle.bands.proofs.pairs_of.Given as goal
 
 abbrev pub invariant-loop-i : goal.invariant-loop-i
-invariant-loop-i l = Filled (low_in l.up l.down l.up_limits l.down_limits) l.i l.low × Filled (high_in l.up l.down l.up_limits l.down_limits) l.i l.high × (l.i ≤ l.m)
-
-abbrev pub decreases-loop-i : goal.decreases-loop-i
-decreases-loop-i l = l.m - l.i
+invariant-loop-i l = Filled (low_in l.up l.down l.up_limits l.down_limits) l.i l.low × Filled (high_in l.up l.down l.up_limits l.down_limits) l.i l.high
