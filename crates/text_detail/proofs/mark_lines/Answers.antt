@@ -7,19 +7,15 @@ use Rattle.text_detail.proofs.mark_lines.Goals.{After-hear}
 use Rattle.text_detail.proofs.mark_lines.Goals as goal
 
 -- the next line, and those behind it
-next : (c : After-hear) → let e = c in let l = c in Next l.args.text.now l.loop-at.at e.line_end-end.result c.hear.result
-next c = let e = c in heard_next _ _ e.line_end-end.result e.line_end-end.ensures.is c.hear.ensures
+next : (c : After-hear) → Next c.args.text.now c.loop-at.at c.line_end-end.result c.hear.result
+next c = heard_next _ _ c.line_end-end.result c.line_end-end.ensures.is c.hear.ensures
 
 pub loop-at-preserved : goal.loop-at-preserved
 loop-at-preserved c =
-    let h = c in
-    let e = c in
-    let l = c in
-    let i = l.loop-at.invariant in
-    (omega (arith, i.0, e.line_end-end.ensures.within), _, c.mark_said.ensures.is i.1 i.2, marked_next i.1 (l.loop-at.k + 1) (next (goal.at.loop-at-preserved c).After-hear) i.3)
+    let i = c.loop-at.invariant in
+    (omega (arith, i.0, c.line_end-end.ensures.within), _, c.mark_said.ensures.is i.1 i.2, marked_next i.1 (c.loop-at.k + 1) (next (goal.at.loop-at-preserved c).After-hear) i.3)
 
 pub returns : goal.returns
 returns c =
-    let l = c in
-    let i = l.loop-at.invariant in
-    marked_all (l.loop-at.k + 1) (heard_end _ _ c.loop-at-test.false) i.3 i.2
+    let i = c.loop-at.invariant in
+    marked_all (c.loop-at.k + 1) (heard_end _ _ c.loop-at-test.false) i.3 i.2
