@@ -133,17 +133,12 @@ fn by_number(text: &[u8], number: usize, line: usize) -> Detail
     requires { given (text_refusals text.now) ≡ given_at number line }
     ensures { result ≡ T.detail_at text.now (given_at number line) }
 {
+    let told = words::line(text, line.saturating_sub(1));
     match number {
-        42 => odd(words::line(text, line.saturating_sub(1))),
-        46 => told_before(
-            text,
-            spoken::hear(words::line(text, line.saturating_sub(1))),
-        ),
+        42 => odd(told),
+        46 => told_before(text, spoken::hear(told)),
         47 => lacks(text),
-        50 => lies_apart(
-            text,
-            spoken::hear(words::line(text, line.saturating_sub(1))),
-        ),
+        50 => lies_apart(text, spoken::hear(told)),
         _ => Detail::Nothing,
     }
 }
