@@ -21,10 +21,8 @@ fn mark_said(labels: &mut [usize; 231], y: &mut [i64; 220], h: Said, line: usize
     requires { 0 < line }
     ensures { SaidMarked h line labels.old y.old labels.new y.new }
 {
-    match h {
-        Said::Nothing => {}
-        Said::Item { record } => detail::mark(labels, y, record, line),
-        Said::Unclear => {}
+    if let Said::Item { record } = h {
+        detail::mark(labels, y, record, line);
     }
 }
 
@@ -34,6 +32,7 @@ fn mark_lines(text: &[u8], labels: &mut [usize; 231], y: &mut [i64; 220])
 {
     let mut k = 0;
     let mut at = 0;
+    // from line to line: no `for` goes by steps of unlike lengths
     while at < text.len() {
         let end = words::line_end(text, at);
         k += 1;
@@ -71,18 +70,10 @@ fn earlier(text: &[u8], r: Record) -> Detail
     ensures { result ≡ T.told_before (heard text.now) (Said.Item r) }
 {
     match r {
-        Record::Opening { sizes: _ } => Detail::Earlier {
+        Record::Opening { .. } => Detail::Earlier {
             label: survey::look_over(text).opening,
         },
-        Record::Point { index: _, x: _ } => Detail::Earlier {
-            label: line_of(text, r),
-        },
-        Record::Value {
-            stroke: _,
-            cycle: _,
-            index: _,
-            y: _,
-        } => Detail::Earlier {
+        Record::Point { .. } | Record::Value { .. } => Detail::Earlier {
             label: line_of(text, r),
         },
         Record::Close => Detail::Nothing,
@@ -94,9 +85,8 @@ fn told_before(text: &[u8], h: Said) -> Detail
     ensures { result ≡ T.told_before (heard text.now) h }
 {
     match h {
-        Said::Nothing => Detail::Nothing,
         Said::Item { record } => earlier(text, record),
-        Said::Unclear => Detail::Nothing,
+        _ => Detail::Nothing,
     }
 }
 
@@ -126,38 +116,16 @@ fn apart_at(text: &[u8], i: usize) -> Detail
     detail::apart(z.n, z.strokes, &labels, &y, i)
 }
 
-fn apart_by(text: &[u8], r: Record) -> Detail
-    requires { (length text.now ≤ 65536) × ScatteredBy (heard text.now) (Said.Item r) }
-    ensures { result ≡ T.lies_apart (S.text (heard text.now)) (Said.Item r) }
-{
-    match r {
-        Record::Opening { sizes: _ } => Detail::Nothing,
-        Record::Point { index, x: _ } => apart_at(text, index),
-        Record::Value {
-            stroke: _,
-            cycle: _,
-            index: _,
-            y: _,
-        } => Detail::Nothing,
-        Record::Close => Detail::Nothing,
-    }
-}
-
 fn lies_apart(text: &[u8], h: Said) -> Detail
     requires { (length text.now ≤ 65536) × ScatteredBy (heard text.now) h }
     ensures { result ≡ T.lies_apart (S.text (heard text.now)) h }
 {
     match h {
-        Said::Nothing => Detail::Nothing,
-        Said::Item { record } => apart_by(text, record),
-        Said::Unclear => Detail::Nothing,
+        Said::Item {
+            record: Record::Point { index, .. },
+        } => apart_at(text, index),
+        _ => Detail::Nothing,
     }
-}
-
-fn one_less(k: usize) -> usize
-    ensures { result ≡ k - 1 }
-{
-    if k == 0 { 0 } else { k - 1 }
 }
 
 // Of a text that is answered with this number and line.
@@ -165,11 +133,12 @@ fn by_number(text: &[u8], number: usize, line: usize) -> Detail
     requires { given (text_refusals text.now) ≡ given_at number line }
     ensures { result ≡ T.detail_at text.now (given_at number line) }
 {
+    let told = words::line(text, line.saturating_sub(1));
     match number {
-        42 => odd(words::line(text, one_less(line))),
-        46 => told_before(text, spoken::hear(words::line(text, one_less(line)))),
+        42 => odd(told),
+        46 => told_before(text, spoken::hear(told)),
         47 => lacks(text),
-        50 => lies_apart(text, spoken::hear(words::line(text, one_less(line)))),
+        50 => lies_apart(text, spoken::hear(told)),
         _ => Detail::Nothing,
     }
 }

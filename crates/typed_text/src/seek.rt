@@ -8,27 +8,7 @@ use spoken::Said;
 fn is_point(i: usize, h: Said) -> bool
     ensures { result ≡ gives_point i h }
 {
-    match h {
-        Said::Nothing => false,
-        Said::Item { record } => is_record_of(i, record),
-        Said::Unclear => false,
-    }
-}
-
-fn is_record_of(i: usize, r: Record) -> bool
-    ensures { result ≡ gives_point i (Said.Item r) }
-{
-    match r {
-        Record::Opening { sizes: _ } => false,
-        Record::Point { index, x: _ } => i == index,
-        Record::Value {
-            stroke: _,
-            cycle: _,
-            index: _,
-            y: _,
-        } => false,
-        Record::Close => false,
-    }
+    matches!(h, Said::Item { record: Record::Point { index, .. } } if index == i)
 }
 
 // The first line that gives the input of a point; 0 where none does.
@@ -37,6 +17,7 @@ pub fn line_of_point(text: &[u8], i: usize) -> usize
 {
     let mut k = 0;
     let mut at = 0;
+    // from line to line: no `for` goes by steps of unlike lengths
     while at < text.len() {
         let end = words::line_end(text, at);
         k += 1;

@@ -8,12 +8,8 @@ mark_lines-requires c = blank_marked
 
 pub apart-requires : goal.apart-requires
 apart-requires c =
-    let a = c in
-    let o = c in
-    strokes_fit o.look_over-t.ensures o.requires.1 a.mark_lines.ensures
+    strokes_fit c.look_over-t.ensures c.requires.1 c.mark_lines.ensures
 
 pub returns : goal.returns
 returns c =
-    let a = c in
-    let o = c in
-    apart_told o.look_over-t.ensures o.requires.1 a.mark_lines.ensures c.apart.ensures
+    apart_told c.look_over-t.ensures c.requires.1 c.mark_lines.ensures c.apart.ensures

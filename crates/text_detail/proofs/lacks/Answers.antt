@@ -7,7 +7,7 @@ pub mark_lines-requires : goal.mark_lines-requires
 mark_lines-requires c = blank_marked
 
 pub missing-requires : goal.missing-requires
-missing-requires c = let o = c in sizes_room o.look_over-t.ensures o.requires.1
+missing-requires c = sizes_room c.look_over-t.ensures c.requires.1
 
 pub returns : goal.returns
-returns c = let a = c in lacks_told a.look_over-t.ensures a.mark_lines.ensures c.missing.ensures
+returns c = lacks_told c.look_over-t.ensures c.mark_lines.ensures c.missing.ensures

@@ -1,25 +1,16 @@
 -- `text_detail::mark_lines` meets its contract: the records of the lines so far are in the arrays, and with those still to come they are the records of all lines.
 use Prim.Native.Nat.{◌+◌}
 use native.Mathlib.Omega.{arith}
-use Rattle.typed_text.specs.HeardLaws.{Next, heard_next, heard_end}
+use Rattle.typed_text.specs.HeardLaws.{heard_next, heard_end}
 use Rattle.text_detail.specs.LineLaws.{marked_next, marked_all}
-use Rattle.text_detail.proofs.mark_lines.Goals.{After-hear}
 use Rattle.text_detail.proofs.mark_lines.Goals as goal
-
--- the next line, and those behind it
-next : (c : After-hear) → let e = c in let l = c in Next l.args.text.now l.loop-at.at e.line_end-end.result c.hear.result
-next c = let e = c in heard_next _ _ e.line_end-end.result e.line_end-end.ensures.is c.hear.ensures
 
 pub loop-at-preserved : goal.loop-at-preserved
 loop-at-preserved c =
-    let h = c in
-    let e = c in
-    let l = c in
-    let i = l.loop-at.invariant in
-    (omega (arith, i.0, e.line_end-end.ensures.within), _, c.mark_said.ensures.is i.1 i.2, marked_next i.1 (l.loop-at.k + 1) (next (goal.at.loop-at-preserved c).After-hear) i.3)
+    let i = c.loop-at.invariant in
+    (omega (arith, i.0, c.line_end-end.ensures.within), _, c.mark_said.ensures.is i.1 i.2, marked_next i.1 (c.loop-at.k + 1) (heard_next _ _ c.line_end-end.result c.line_end-end.ensures.is c.hear.ensures) i.3)
 
 pub returns : goal.returns
 returns c =
-    let l = c in
-    let i = l.loop-at.invariant in
-    marked_all (l.loop-at.k + 1) (heard_end _ _ c.loop-at-test.false) i.3 i.2
+    let i = c.loop-at.invariant in
+    marked_all (c.loop-at.k + 1) (heard_end _ _ c.loop-at-test.false) i.3 i.2

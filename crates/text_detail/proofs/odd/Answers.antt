@@ -6,6 +6,5 @@ use Rattle.text_detail.proofs.odd.Goals as goal
 
 pub overflow_add-result-else-k-count : goal.overflow_add-result-else-k-count
 overflow_add-result-else-k-count c =
-    let w = c in
-    let few = odd_most (words w.args.line.now) w.odd_word-k.ensures in
+    let few = odd_most (words c.args.line.now) c.odd_word-k.ensures in
     search rules

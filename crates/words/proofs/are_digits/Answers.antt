@@ -1,22 +1,10 @@
--- `words::are_digits` meets its contract. The bytes passed are digits, so the rest tells.
-use mathlib.Core.Path.{sym, ◌∙◌}
-use native.Mathlib.Omega.{arith}
-use Rattle.words.specs.NumberLaws.{digits_fail, digits_more, digits_end}
+-- `words::are_digits` meets its contract: the library's `all` goes over the bytes as the definition does.
+use Rattle.std.proofs.Common.{rules, tests, ◌∙◌}
+use Rattle.std.proofs.lemmas.Iterator.{YieldsList-from_slice}
+use Rattle.std.proofs.lemmas.Iterator.Search.{all_from_yields_List}
+use Rattle.words.specs.Words.{digit}
+use Rattle.words.specs.NumberLaws.{digits_all}
 use Rattle.words.proofs.are_digits.Goals as goal
 
-pub returns-then-not-is_digit : goal.returns-then-not-is_digit
-returns-then-not-is_digit c =
-    let n = c.before.before.before in
-    let l = n.loop-i in
-    let d = c.is_digit in
-    sym (sym l.invariant.1 ∙ digits_fail _ l.i n.loop-i-test.true (sym d.ensures ∙ c.if-not-is_digit.true))
-
-pub loop-i-preserved : goal.loop-i-preserved
-loop-i-preserved c =
-    let n = c.before.before.before in
-    let l = n.loop-i in
-    let d = c.is_digit in
-    (omega arith, sym (sym l.invariant.1 ∙ digits_more _ l.i n.loop-i-test.true (sym d.ensures ∙ c.if-not-is_digit.false)))
-
 pub returns : goal.returns
-returns c = let l = c.loop-i in sym (sym l.invariant.1 ∙ digits_end _ l.i c.loop-i-test.false)
+returns c = all_from_yields_List digit _ _ _ c.all.ensures.ran (YieldsList-from_slice c.args.w.now cc) (λ x b q k. search (rules, tests)) ∙ digits_all _

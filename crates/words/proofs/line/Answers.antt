@@ -1,12 +1,14 @@
--- `words::line` meets its contract: what is left to pass over counts the line asked for from the place reached.
-use mathlib.Core.Path.{sym, ap, ◌∙◌}
-use mathlib.Core.List.{List, []}
-use Prim.Native.Nat.{ℕ}
-use lib.ListN.{get_or}
-use Rattle.words.specs.LineLaws.{lines_end}
+-- `words::line` meets its contract: the lines are the parts between line feeds.
+use Rattle.std.proofs.Common.{rules, tests, refl, ap, ◌∙◌}
+use Rattle.std.proofs.lemmas.Iterator.Splits.{YieldsList-from_slice_split}
+use Rattle.std.proofs.lemmas.Iterator.Consumers.{nth_from_yields_List}
+use Rattle.words.specs.LineLaws.{feed, lines_split}
+use Rattle.words.specs.WordLaws.{nth_or}
 use Rattle.words.proofs.line.Goals as goal
 
 pub returns : goal.returns
 returns c =
-    let l = c.loop-at in
-    sym (l.invariant ∙ ap (λ (ls : List (List ℕ)). get_or ls l.left []) (lines_end _ l.at c.loop-at-test.false))
+    ap (λ x. x.now) c.unwrap_or.ensures
+    ∙ nth_or _ _ _ c.args.k (nth_from_yields_List c.nth.result _ c.args.k c.nth.ensures.ran
+    (YieldsList-from_slice_split _ feed c.args.s.now (cc) (cc) c.split.ensures.closure (λ x b q k. search (rules, tests)))) refl
+    ∙ lines_split _ c.args.k

@@ -1,22 +1,16 @@
--- `words::line_end` meets its contract: nothing that is passed is a line feed.
-use native.Mathlib.Omega.{arith}
-use borrow.Author.Tests.{ne_eqb}
-use Rattle.words.specs.Passed.{passed_none, passed_more}
-use Rattle.words.specs.LineLaws.{feed, line_ended}
+-- `words::line_end` meets its contract: the library's `position` finds the line feed that ends the first line.
+use Rattle.std.proofs.Common.{◌≡◌, true, false, rules, tests, drop}
+use Rattle.std.proofs.lemmas.Slice.{between_to_end}
+use Rattle.std.proofs.lemmas.Iterator.{YieldsList-from_slice, IsFirst-from_position}
+use Rattle.words.specs.LineLaws.{feed, First, line_found, line_rest}
+use Rattle.words.proofs.line_end.Goals.{After-position}
 use Rattle.words.proofs.line_end.Goals as goal
 
-pub loop-i-init : goal.loop-i-init
-loop-i-init c = passed_none feed _ _ (omega arith)
+first : (c : After-position) → First (drop c.args.at c.args.s.now) c.position.result
+first c = IsFirst-from_position _ _ c.position.result (λ b. feed b ≡ true) (λ b. feed b ≡ false) c.position.ensures.ran (YieldsList-from_slice (drop c.args.at c.args.s.now) (search (rules, between_to_end))) (λ x q k. search (rules, tests)) (λ x q k. search (rules, tests))
 
-pub returns-then-s-i-eq10 : goal.returns-then-s-i-eq10
-returns-then-s-i-eq10 c =
-    let l = c.loop-i in
-    record { within = (l.invariant.from, l.invariant.within); is = line_ended (omega arith) l.invariant (λ _. c.if-s-i-eq10.true) }
+pub returns-in-Some-clause-is : goal.returns-in-Some-clause-is
+returns-in-Some-clause-is c = line_found _ c.args.at c.in-Some.k c.requires (rw c.in-Some.is at (first (goal.at.returns-in-Some-clause-is c).After-position))
 
-pub loop-i-preserved : goal.loop-i-preserved
-loop-i-preserved c = passed_more c.loop-i.invariant (omega arith) (ne_eqb _ _ c.if-s-i-eq10.false)
-
-pub returns : goal.returns
-returns c =
-    let l = c.loop-i in
-    record { within = (l.invariant.from, l.invariant.within); is = line_ended (omega arith) l.invariant (λ h. let z : ⊥ = omega (arith, c.loop-i-test.false) in absurd z) }
+pub returns-in-None-clause-is : goal.returns-in-None-clause-is
+returns-in-None-clause-is c = line_rest _ c.args.at c.requires (rw c.in-None.is at (first (goal.at.returns-in-None-clause-is c).After-position))

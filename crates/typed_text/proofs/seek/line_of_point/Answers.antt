@@ -7,18 +7,16 @@ use Rattle.typed_text.proofs.seek.line_of_point.Goals.{After-hear}
 use Rattle.typed_text.proofs.seek.line_of_point.Goals as goal
 
 -- the next line, and those behind it
-next : (c : After-hear) → let l = c in Next l.args.text.now l.loop-at.at c.line_end-end.result c.hear.result
+next : (c : After-hear) → Next c.args.text.now c.loop-at.at c.line_end-end.result c.hear.result
 next c = heard_next _ _ c.line_end-end.result c.line_end-end.ensures.is c.hear.ensures
 
 pub returns-then-is_point : goal.returns-then-is_point
 returns-then-is_point c =
-    let h = c in
-    sym (point_found _ _ (next (goal.at.returns-then-is_point c).After-hear) (sym c.is_point.ensures ∙ c.if-is_point.true)) ∙ h.loop-at.invariant.1
+    sym (point_found _ _ (next (goal.at.returns-then-is_point c).After-hear) (sym c.is_point.ensures ∙ c.if-is_point.true)) ∙ c.loop-at.invariant.1
 
 pub loop-at-preserved : goal.loop-at-preserved
 loop-at-preserved c =
-    let h = c in
-    (omega arith, sym (point_passed _ _ (next (goal.at.loop-at-preserved c).After-hear) (sym c.is_point.ensures ∙ c.if-is_point.false)) ∙ h.loop-at.invariant.1)
+    (omega arith, sym (point_passed _ _ (next (goal.at.loop-at-preserved c).After-hear) (sym c.is_point.ensures ∙ c.if-is_point.false)) ∙ c.loop-at.invariant.1)
 
 pub returns : goal.returns
 returns c = sym (point_none _ _ (heard_end _ _ c.loop-at-test.false)) ∙ c.loop-at.invariant.1
