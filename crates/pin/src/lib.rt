@@ -137,10 +137,8 @@ fn over_partners(
     ensures { Partners (lent m d x.now low.now high.now) p old i m result }
 {
     let mut best = old;
-    let mut j = i + 1;
-    while j < m {
+    for j in i + 1..m {
         best = consider(best, pair_of(m, d, x, low, high, p, i, j));
-        j += 1;
     }
     best
 }
@@ -167,10 +165,8 @@ fn greatest(
     ensures { Found (lent m d x.now low.now high.now) p result }
 {
     let mut best = pair_of(m, d, x, low, high, p, m - 1, m - 1);
-    let mut i = n;
-    while i < m {
+    for i in n..m {
         best = over_partners(m, d, x, low, high, p, i, best);
-        i += 1;
     }
     best
 }
@@ -263,10 +259,7 @@ pub fn zero_of(m: usize, d: u64, x: &[i64; 11], low: &[i64; 11], high: &[i64; 11
 pub fn zero(m: usize, d: u64, x: &[i64; 11], low: &[i64; 11], high: &[i64; 11]) -> Drawn
     ensures { ZeroDue (lent m d x.now low.now high.now) result }
 {
-    if !is_drawn(m, d, x, low, high) {
-        return Drawn::Improper;
-    }
-    if is_below(input_at(x, 0), Input { count: 0 }) {
+    if !is_drawn(m, d, x, low, high) || is_below(input_at(x, 0), Input { count: 0 }) {
         return Drawn::Improper;
     }
     complete(zero_of(m, d, x, low, high))
