@@ -315,7 +315,7 @@ pub fn best(m: usize, d: u64, x: &[i64; 11], low: &[i64; 11], high: &[i64; 11]) 
     complete(best_of(m, d, x, low, high))
 }
 
-// The terminal line, through the first and the last point, of points that are known to be admitted, with one value at each input.
+// The terminal line, through the first and the last point, of points that are known to be admitted, with one value at each input. It and the shifted one stay two functions each: one that is handed the last step would be longer, for it needs the contract of what it is handed.
 pub fn terminal_of(m: usize, d: u64, x: &[i64; 11], low: &[i64; 11], high: &[i64; 11]) -> Course
     requires { Admitted (lent m d x.now low.now high.now) × OneValue (lent m d x.now low.now high.now) }
     ensures { CourseDue (TheTerminal (lent m d x.now low.now high.now)) result }

@@ -101,7 +101,7 @@ fn pair_of(
     )
 }
 
-// a/b is above c/d, by cross products.
+// a/b is above c/d, by cross products. The search for three inputs compares so too, but in two ways at once and within other sizes, so that one function for both would be no plainer.
 fn exceeds(a: i64, b: i64, c: i64, d: i64) -> bool
     requires { Bounds (a ∷ b ∷ c ∷ d ∷ []) (most_num ∷ most_den ∷ most_num ∷ most_den ∷ []) }
     ensures { result ≡ lt_z (c *ℤ b) (a *ℤ d) }
@@ -237,7 +237,7 @@ fn pinned(m: usize, d: u64, x: &[i64; 11], low: &[i64; 11], high: &[i64; 11], p:
     Plotted::Line(line_of(m, d, x, low, high, p, t))
 }
 
-// The zero-based line of points that it may be drawn past.
+// The zero-based line of points that it may be drawn past. It and the front one have `pinned` in common; what is left of them differs in the point, in what is asked and in what is due, so that one function would be no plainer.
 pub fn zero_of(m: usize, d: u64, x: &[i64; 11], low: &[i64; 11], high: &[i64; 11]) -> Plotted
     requires { Admitted (lent m d x.now low.now high.now) × OneValue (lent m d x.now low.now high.now) × NoNegative (lent m d x.now low.now high.now) }
     ensures { PlotDue (ZeroDue (lent m d x.now low.now high.now)) result }

@@ -24,8 +24,8 @@ test c = sym (c.is_below.ensures ∙ ap (λ (u : Input). lt_z u.count (pos 0)) c
 
 pub returns-then-not-is_drawn : goal.returns-then-not-is_drawn
 returns-then-not-is_drawn c = λ a level h. elim c.then-not-is_drawn.branch [
-    then-not-is_drawn-via-then-not-is_drawn w ↦ drawn_no (P (goal.at.returns-then-not-is_drawn c).Start) (sym c.is_drawn.ensures ∙ w.if-not-is_drawn.true) a level
-    | then-not-is_drawn-via-else-not-is_drawn+then-is_below w ↦ clash_ℤ (lt_z_yes (yes-T (sym (w.is_below.ensures ∙ ap (λ (u : Input). lt_z u.count (pos 0)) w.input_at.ensures) ∙ w.if-is_below.true))) (h 0 (omega (arith, a.three)))
+  | then-not-is_drawn-via-then-not-is_drawn w ↦ drawn_no (P (goal.at.returns-then-not-is_drawn c).Start) (sym c.is_drawn.ensures ∙ w.if-not-is_drawn.true) a level
+  | then-not-is_drawn-via-else-not-is_drawn+then-is_below w ↦ clash_ℤ (lt_z_yes (yes-T (sym (w.is_below.ensures ∙ ap (λ (u : Input). lt_z u.count (pos 0)) w.input_at.ensures) ∙ w.if-is_below.true))) (h 0 (omega (arith, a.three)))
 ]
 
 pub zero_of-requires : goal.zero_of-requires
