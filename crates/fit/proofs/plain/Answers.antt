@@ -50,14 +50,12 @@ bounds c =
 
 pub lay-requires : goal.lay-requires
 lay-requires c =
-    let e = c in
     let h = (start (goal.at.lay-requires c).After-max).requires in
     whole_by (σ (goal.at.lay-requires c).After-max) β' (bounds (goal.at.lay-requires c).After-max) four tt (positive_mul h.rise (positive_nat h.unit))
     (subst (λ (z : ℤ). pos 0 ≤ℤ z) (sym (found (goal.at.lay-requires c).After-max)) (le_trans h.high (greater_left (start (goal.at.lay-requires c).After-max).args.r.hi (pos 0 -ℤ (start (goal.at.lay-requires c).After-max).args.r.lo))))
 
 pub returns : goal.returns
 returns c =
-    let e = c in
     let s = start (goal.at.returns c).After-max in
     subst (λ (w : ℤ). CourseParts c.lay.result s.args.e.a s.args.e.b (s.args.e.s *ℤ pos s.args.d) w) (found (goal.at.returns c).After-max)
     (parts_by (σ (goal.at.returns c).After-max) β' (bounds (goal.at.returns c).After-max) four tt c.lay.ensures)

@@ -16,7 +16,7 @@ abbrev P : Start → Points
 P s = let a = s.args in lent a.m a.d a.x.now a.low.now a.high.now
 
 drawn : (c : Else-not-is_drawn) → let Q = P c.before.before in Admitted Q × OneValue Q
-drawn c = let t = c in drawn_yes (P c.before.before) (sym t.is_drawn.ensures ∙ c.if-not-is_drawn.false)
+drawn c = drawn_yes (P c.before.before) (sym c.is_drawn.ensures ∙ c.if-not-is_drawn.false)
 
 -- the first input was held against 0
 test : (c : After-is_below) → lt_z ((P c.before.before.before.before).x 0) (pos 0) ≡ c.is_below.result
