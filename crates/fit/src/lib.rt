@@ -96,27 +96,31 @@ pub fn lay(a: i64, b: i64, q: i64, w: i64) -> Course
 }
 
 // ---- Fractions are made last, and only where they are asked for.
-fn told(c: Course) -> Fit
-    ensures { Tells c result }
-{
-    Fit {
-        a: c.a,
-        b: c.b,
-        q: c.q,
-        w: c.w,
-        width: exact::lowest(c.w, c.q),
-        slope: exact::lowest(c.a, c.q),
-        offset: exact::lowest(c.b, c.q),
+impl From<Course> for Fit {
+    ghost from_gives = { Tells };
+
+    fn from(c: Course) -> Fit {
+        Fit {
+            a: c.a,
+            b: c.b,
+            q: c.q,
+            w: c.w,
+            width: exact::lowest(c.w, c.q),
+            slope: exact::lowest(c.a, c.q),
+            offset: exact::lowest(c.b, c.q),
+        }
     }
 }
 
-fn told_width(h: Reach) -> Wide
-    ensures { TellsWidth h result }
-{
-    Wide {
-        w: h.w,
-        q: h.q,
-        width: exact::lowest(h.w, h.q),
+impl From<Reach> for Wide {
+    ghost from_gives = { TellsWidth };
+
+    fn from(h: Reach) -> Wide {
+        Wide {
+            w: h.w,
+            q: h.q,
+            width: exact::lowest(h.w, h.q),
+        }
     }
 }
 
@@ -124,21 +128,9 @@ pub fn complete(p: Plotted) -> Drawn
     ensures { Completes p result }
 {
     match p {
-        Plotted::Line(c) => Drawn::Line(told(c)),
-        Plotted::Several(h) => Drawn::Several(told_width(h)),
+        Plotted::Line(c) => Drawn::Line(Fit::from(c)),
+        Plotted::Several(h) => Drawn::Several(Wide::from(h)),
     }
-}
-
-fn lesser(a: i64, b: i64) -> i64
-    ensures { result ≡ smaller a b }
-{
-    if a < b { a } else { b }
-}
-
-fn larger(a: i64, b: i64) -> i64
-    ensures { result ≡ greater a b }
-{
-    if a < b { b } else { a }
 }
 
 // The line through the values v at i and at k.
@@ -173,8 +165,8 @@ fn wider(r: Spread, h: i64) -> Spread
     ensures { Wider r h result }
 {
     Spread {
-        lo: lesser(r.lo, h),
-        hi: larger(r.hi, h),
+        lo: r.lo.min(h),
+        hi: r.hi.max(h),
     }
 }
 
@@ -186,13 +178,11 @@ fn spread_of(m: usize, d: u64, x: &[i64; 11], low: &[i64; 11], high: &[i64; 11],
     let p = input_at(x, 0);
     let v = part_at(low, 0);
     let mut r = Spread { lo: 0, hi: 0 };
-    let mut i = 0;
-    while i < m {
+    for i in 0..m {
         r = wider(
             r,
             height(e, gap(p, input_at(x, i)), rise(v, part_at(low, i))),
         );
-        i += 1;
     }
     r
 }
@@ -204,7 +194,7 @@ fn plain(e: Ends, r: Spread, d: u64) -> Course
 {
     let s = e.s;
     let lo = r.lo;
-    lay(e.a, e.b, s * (d as i64), larger(r.hi, 0 - lo))
+    lay(e.a, e.b, s * (d as i64), r.hi.max(0 - lo))
 }
 
 // The terminal line, moved by half the sum of the two deviations.
@@ -230,40 +220,6 @@ fn chord(e: Ends, s: i64, w: i64, d: u64) -> Course
     let b = e.b;
     let span = e.s;
     lay(2 * a, 2 * b - s, 2 * span * (d as i64), w)
-}
-
-// The chord over the highest values at i and k, moved half way down to a lowest value between them: n is how far that is, times the gap of i and k.
-fn over_high(
-    m: usize,
-    d: u64,
-    x: &[i64; 11],
-    low: &[i64; 11],
-    high: &[i64; 11],
-    i: usize,
-    k: usize,
-    n: i64,
-) -> Course
-    requires { Chosen (lent m d x.now low.now high.now) i k n }
-    ensures { OverHigh (lent m d x.now low.now high.now) i k n (CourseParts result) }
-{
-    chord(through(x, high, i, k), n, n, d)
-}
-
-// The chord over the lowest values at i and k, moved half way up to a highest value between them.
-fn over_low(
-    m: usize,
-    d: u64,
-    x: &[i64; 11],
-    low: &[i64; 11],
-    high: &[i64; 11],
-    i: usize,
-    k: usize,
-    n: i64,
-) -> Course
-    requires { Chosen (lent m d x.now low.now high.now) i k n }
-    ensures { OverLow (lent m d x.now low.now high.now) i k n (CourseParts result) }
-{
-    chord(through(x, low, i, k), 0 - n, n, d)
 }
 
 // The line midway between the lines e and h over one gap of inputs, with the width w.
@@ -339,11 +295,13 @@ pub fn best_of(m: usize, d: u64, x: &[i64; 11], low: &[i64; 11], high: &[i64; 11
     ensures { PlotDue (BestDue (lent m d x.now low.now high.now)) result }
 {
     let top = search::greatest(m, d, x, low, high);
-    let which = top.which;
-    match which {
+    let n = top.num;
+    match top.which {
         Candidate::One(i) => single(m, d, x, low, high, top, i),
-        Candidate::Up(i, _, k) => Plotted::Line(over_high(m, d, x, low, high, i, k, top.num)),
-        Candidate::Down(i, _, k) => Plotted::Line(over_low(m, d, x, low, high, i, k, top.num)),
+        // The chord over the highest values at i and k, moved half way down to a lowest value between them: n is how far that is, times the gap of i and k.
+        Candidate::Up(i, _, k) => Plotted::Line(chord(through(x, high, i, k), n, n, d)),
+        // The chord over the lowest values at i and k, moved half way up to a highest value between them.
+        Candidate::Down(i, _, k) => Plotted::Line(chord(through(x, low, i, k), 0 - n, n, d)),
     }
 }
 
@@ -357,7 +315,7 @@ pub fn best(m: usize, d: u64, x: &[i64; 11], low: &[i64; 11], high: &[i64; 11]) 
     complete(best_of(m, d, x, low, high))
 }
 
-// The terminal line, through the first and the last point, of points that are known to be admitted, with one value at each input.
+// The terminal line, through the first and the last point, of points that are known to be admitted, with one value at each input. It and the shifted one stay two functions each: one that is handed the last step would be longer, for it needs the contract of what it is handed.
 pub fn terminal_of(m: usize, d: u64, x: &[i64; 11], low: &[i64; 11], high: &[i64; 11]) -> Course
     requires { Admitted (lent m d x.now low.now high.now) × OneValue (lent m d x.now low.now high.now) }
     ensures { CourseDue (TheTerminal (lent m d x.now low.now high.now)) result }
@@ -374,7 +332,7 @@ pub fn terminal(m: usize, d: u64, x: &[i64; 11], low: &[i64; 11], high: &[i64; 1
     if !band::is_drawn(m, d, x, low, high) {
         return Drawn::Improper;
     }
-    Drawn::Line(told(terminal_of(m, d, x, low, high)))
+    Drawn::Line(Fit::from(terminal_of(m, d, x, low, high)))
 }
 
 // The shifted terminal line, of points that are known to be admitted, with one value at each input.
@@ -394,5 +352,5 @@ pub fn shifted(m: usize, d: u64, x: &[i64; 11], low: &[i64; 11], high: &[i64; 11
     if !band::is_drawn(m, d, x, low, high) {
         return Drawn::Improper;
     }
-    Drawn::Line(told(shifted_of(m, d, x, low, high)))
+    Drawn::Line(Fit::from(shifted_of(m, d, x, low, high)))
 }

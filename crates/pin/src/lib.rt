@@ -101,7 +101,7 @@ fn pair_of(
     )
 }
 
-// a/b is above c/d, by cross products.
+// a/b is above c/d, by cross products. The search for three inputs compares so too, but in two ways at once and within other sizes, so that one function for both would be no plainer.
 fn exceeds(a: i64, b: i64, c: i64, d: i64) -> bool
     requires { Bounds (a ∷ b ∷ c ∷ d ∷ []) (most_num ∷ most_den ∷ most_num ∷ most_den ∷ []) }
     ensures { result ≡ lt_z (c *ℤ b) (a *ℤ d) }
@@ -137,10 +137,8 @@ fn over_partners(
     ensures { Partners (lent m d x.now low.now high.now) p old i m result }
 {
     let mut best = old;
-    let mut j = i + 1;
-    while j < m {
+    for j in i + 1..m {
         best = consider(best, pair_of(m, d, x, low, high, p, i, j));
-        j += 1;
     }
     best
 }
@@ -167,10 +165,8 @@ fn greatest(
     ensures { Found (lent m d x.now low.now high.now) p result }
 {
     let mut best = pair_of(m, d, x, low, high, p, m - 1, m - 1);
-    let mut i = n;
-    while i < m {
+    for i in n..m {
         best = over_partners(m, d, x, low, high, p, i, best);
-        i += 1;
     }
     best
 }
@@ -241,7 +237,7 @@ fn pinned(m: usize, d: u64, x: &[i64; 11], low: &[i64; 11], high: &[i64; 11], p:
     Plotted::Line(line_of(m, d, x, low, high, p, t))
 }
 
-// The zero-based line of points that it may be drawn past.
+// The zero-based line of points that it may be drawn past. It and the front one have `pinned` in common; what is left of them differs in the point, in what is asked and in what is due, so that one function would be no plainer.
 pub fn zero_of(m: usize, d: u64, x: &[i64; 11], low: &[i64; 11], high: &[i64; 11]) -> Plotted
     requires { Admitted (lent m d x.now low.now high.now) × OneValue (lent m d x.now low.now high.now) × NoNegative (lent m d x.now low.now high.now) }
     ensures { PlotDue (ZeroDue (lent m d x.now low.now high.now)) result }
@@ -263,10 +259,7 @@ pub fn zero_of(m: usize, d: u64, x: &[i64; 11], low: &[i64; 11], high: &[i64; 11
 pub fn zero(m: usize, d: u64, x: &[i64; 11], low: &[i64; 11], high: &[i64; 11]) -> Drawn
     ensures { ZeroDue (lent m d x.now low.now high.now) result }
 {
-    if !is_drawn(m, d, x, low, high) {
-        return Drawn::Improper;
-    }
-    if is_below(input_at(x, 0), Input { count: 0 }) {
+    if !is_drawn(m, d, x, low, high) || is_below(input_at(x, 0), Input { count: 0 }) {
         return Drawn::Improper;
     }
     complete(zero_of(m, d, x, low, high))

@@ -5,13 +5,12 @@ use Rattle.band.specs.Line.{Points}
 use Rattle.band.specs.Candidate.{num, den, Fits}
 use Rattle.band.specs.Candidate as C
 use Rattle.band.specs.Band.{Admitted}
-use Rattle.search.specs.Search.{shown, which}
+use Rattle.search.specs.Search.{shown}
 use Rattle.search.specs.Over.{Greatest, Holds, Told, Singles, Middles, Ends, Starts}
 use Rattle.search.specs.OverLaws.{over, singles_none, singles_more, middles_none, middles_more, ends_none, ends_more, starts_none, starts_more, most}
 use Rattle.search.specs.SearchLaws.{found}
 use Rattle.search.specs.declared.Candidate.{Candidate}
 use Rattle.search.specs.declared.Candidate.TheVariants.{One, Up, Down}
-use Rattle.search.specs.declared.Held.{Held}
 use Rattle.search.specs.declared.Top.{Top}
 
 -- what holds at a, and one further from each, holds at n
@@ -21,41 +20,36 @@ counted Q a (suc n) h q next = ⊎_elim (λ e. subst Q e q) (λ l. let m : a ≤
 
 module _ {P : Points} (a : Admitted P) where
   -- a candidate, held with its fraction
-  abbrev held : Candidate → Held
-  held (One i) = record { kind = 0; i = i; j = 0; k = 0; num = num P (shown (One i)); den = den P (shown (One i)) }
-  held (Up i j k) = record { kind = 1; i = i; j = j; k = k; num = num P (shown (Up i j k)); den = den P (shown (Up i j k)) }
-  held (Down i j k) = record { kind = 2; i = i; j = j; k = k; num = num P (shown (Down i j k)); den = den P (shown (Down i j k)) }
+  abbrev held : Candidate → Top
+  held c = record { which = c; num = num P (shown c); den = den P (shown c) }
 
   told : (c : Candidate) → Fits P (shown c) → Told P c (held c)
-  told (One i) h = record { is = refl; holds = record { levelled = record { fits = h; num = refl; den = refl } } }
-  told (Up i j k) h = record { is = refl; holds = record { levelled = record { fits = h; num = refl; den = refl } } }
-  told (Down i j k) h = record { is = refl; holds = record { levelled = record { fits = h; num = refl; den = refl } } }
+  told c h = record { is = refl; holds = record { levelled = record { fits = h; num = refl; den = refl } } }
 
-  singles : (t : Held) × Singles P P.m t
-  singles = counted (λ n. (t : Held) × Singles P n t) 0 P.m (omega arith) (held (One 0), singles_none (told (One 0) (omega (arith, a.three))).holds)
-      (λ i _ h s. (over (One i) s.0 (held (One i)), singles_more a h s.1 (told (One i) h) refl))
+  singles : (t : Top) × Singles P P.m t
+  singles = counted (λ n. (t : Top) × Singles P n t) 0 P.m (omega arith) (held (One 0), singles_none (told (One 0) (omega (arith, a.three))).holds)
+      (λ i _ h s. (over s.0 (held (One i)), singles_more a h s.1 (told (One i) h) refl))
 
-  middles : (o : Held) → Holds P o → (i k : ℕ) → i < k → k < P.m → (t : Held) × Middles P o i k k t
-  middles o l i k h m = counted (λ n. (t : Held) × Middles P o i k n t) (i + 1) k (omega arith) (o, middles_none l i k)
+  middles : (o : Top) → Holds P o → (i k : ℕ) → i < k → k < P.m → (t : Top) × Middles P o i k k t
+  middles o l i k h m = counted (λ n. (t : Top) × Middles P o i k n t) (i + 1) k (omega arith) (o, middles_none l i k)
       (λ j p q s.
       let g : (i < j) × (j < k) × (k < P.m) = (omega arith, q, m) in
-      let u = over (Up i j k) s.0 (held (Up i j k)) in
-      (over (Down i j k) u (held (Down i j k)), middles_more a g s.1 (told (Up i j k) g) refl (told (Down i j k) g) refl))
+      let u = over s.0 (held (Up i j k)) in
+      (over u (held (Down i j k)), middles_more a g s.1 (told (Up i j k) g) refl (told (Down i j k) g) refl))
 
-  ends : (o : Held) → Holds P o → (i : ℕ) → i < P.m → (t : Held) × Ends P o i P.m t
-  ends o l i h = counted (λ n. (t : Held) × Ends P o i n t) (i + 1) P.m (omega arith) (o, ends_none l i)
+  ends : (o : Top) → Holds P o → (i : ℕ) → i < P.m → (t : Top) × Ends P o i P.m t
+  ends o l i h = counted (λ n. (t : Top) × Ends P o i n t) (i + 1) P.m (omega arith) (o, ends_none l i)
       (λ k p q s. let m = middles s.0 s.1.holds i k (omega arith) q in (m.0, ends_more a q s.1 m.1))
 
-  starts : (o : Held) → Holds P o → (t : Held) × Starts P o P.m t
-  starts o l = counted (λ n. (t : Held) × Starts P o n t) 0 P.m (omega arith) (o, starts_none l)
+  starts : (o : Top) → Holds P o → (t : Top) × Starts P o P.m t
+  starts o l = counted (λ n. (t : Top) × Starts P o n t) 0 P.m (omega arith) (o, starts_none l)
       (λ i _ h s. let e = ends s.0 s.1.holds i h in (e.0, starts_more a s.1 e.1))
 
   pub some_best : (t : Top) × Greatest P t
   some_best =
       let s = singles in
       let t = starts s.0 s.1.holds in
-      let b = most s.1 t.1 in
-      (record { which = which t.0; num = t.0.num; den = t.0.den }, record { levelled = b.holds.levelled; all = b.all })
+      (t.0, most s.1 t.1)
 
   pub some_greatest : (c : C.Candidate) × C.Greatest P c
   some_greatest = (shown some_best.0.which, found some_best.1)

@@ -1,25 +1,17 @@
 -- The search for the greatest candidate: the code's candidates, and which of two takes the other's place. Method: nothing that the bench offers cites this file.
-use Rattle.std.specs.Prelude.{◌≡◌, Bool, true, false, cond, ℕ, T, eqb, ℤ, ◌*ℤ◌, ◌<ℤ◌}
+use Rattle.std.specs.Prelude.{◌≡◌, Bool, true, false, T, ℤ, ◌*ℤ◌, ◌<ℤ◌}
 use Rattle.std.specs.Int.Signed.{lt_z, le_z}
 use Rattle.band.specs.Line.{Points}
 use Rattle.band.specs.Candidate.{one, up, down, num, den, Fits, AtMost}
 use Rattle.band.specs.Candidate as C
 use Rattle.search.specs.declared.Candidate.{Candidate}
 use Rattle.search.specs.declared.Candidate.TheVariants.{One, Up, Down}
-use Rattle.search.specs.declared.Held.{Held}
 
 -- the code's candidate as the theory has it
 abbrev pub shown : Candidate → C.Candidate
 shown (One i) = one i
 shown (Up i j k) = up i j k
 shown (Down i j k) = down i j k
-
--- the candidate that a loop holds: of kind 0 a single input, of kind 1 a chord above, of any other a chord below
-abbrev pub which_of : (kind i j k : ℕ) → Candidate
-which_of kind i j k = cond (eqb kind 0) (One i) (cond (eqb kind 1) (Up i j k) (Down i j k))
-
-abbrev pub which : Held → Candidate
-which t = which_of t.kind t.i t.j t.k
 
 -- a chord, and no single input
 abbrev pub chord : Candidate → Bool

@@ -1,7 +1,6 @@
 -- Chords of both kinds at once: they run over the outer values, and an inner value lies off them. Method.
-use Rattle.std.specs.Prelude.{◌≡◌, refl, Bool, true, false, cond, List, ◌∷◌, [], ℕ, ◌<◌, ◌≤◌, eqb, ℤ, pos, nat_abs, ◌+ℤ◌, ◌-ℤ◌, ◌*ℤ◌, get_or}
-use Rattle.std.proofs.Common.{sym, ◌∙◌, subst, arith, eqb→eq}
-use Rattle.whole.specs.Flags.{cond_ind}
+use Rattle.std.specs.Prelude.{◌≡◌, refl, List, ◌∷◌, [], ℕ, ◌<◌, ◌≤◌, ℤ, pos, nat_abs, ◌+ℤ◌, ◌-ℤ◌, ◌*ℤ◌, get_or}
+use Rattle.std.proofs.Common.{◌∙◌}
 use Rattle.whole.specs.Poly.{var, lit, ◌⊕◌, ◌⊖◌, ◌⊗◌}
 use Rattle.whole.specs.Ring.{ring}
 use Rattle.units.specs.Units.{input_in, part_in}
@@ -10,33 +9,61 @@ use Rattle.units.specs.declared.Part.{Part}
 use Rattle.band.specs.Line.{Points}
 use Rattle.band.specs.Candidate.{up, down, num, den, Fits, upE, downE}
 use Rattle.band.specs.Band.{lent, most_v, Admitted}
-use Rattle.search.specs.Search.{shown, which_of, Levelled}
+use Rattle.search.specs.Search.{shown, Levelled}
 use Rattle.search.specs.SearchSize.{told_size}
 use Rattle.search.specs.declared.Candidate.{Candidate}
 use Rattle.search.specs.declared.Candidate.TheVariants.{Up, Down}
+use Rattle.search.specs.declared.Side.{Side}
+use Rattle.search.specs.declared.Side.TheVariants.{Above, Beneath}
 
--- the points whose highest values are the outer ones for the kind 1, and whose lowest are for any other
-abbrev pub sided : (kind m d : ℕ) → (x outer inner : List ℤ) → Points
-sided kind m d x outer inner = lent m d x (cond (eqb kind 1) inner outer) (cond (eqb kind 1) outer inner)
+-- the chord on a side of the value at its middle input
+abbrev pub chord_on : Side → (i j k : ℕ) → Candidate
+chord_on Above i j k = Up i j k
+chord_on Beneath i j k = Down i j k
 
--- a value of one side is as small as those of both are, whichever are the highest
-pub side_size : (b : Bool) (these others : List ℤ) (i : ℕ) {v : Part} → nat_abs (get_or (cond b these others) i (pos 0)) ≤ most_v → nat_abs (get_or (cond b others these) i (pos 0)) ≤ most_v → v ≡ part_in these i → nat_abs v.count ≤ most_v
-side_size true these others i h l e = subst (λ (v : Part). nat_abs v.count ≤ most_v) (sym e) h
-side_size false these others i h l e = subst (λ (v : Part). nat_abs v.count ≤ most_v) (sym e) l
+-- of the outer and the inner values the lowest and the highest
+abbrev pub lows_of : Side → (outer inner : List ℤ) → List ℤ
+lows_of Above outer inner = inner
+lows_of Beneath outer inner = outer
 
--- what holds of a chord above and of one beneath holds of a chord of either kind
-either : (Q : Candidate → Type 0) {kind i j k : ℕ} → 0 < kind → Q (Up i j k) → Q (Down i j k) → Q (which_of kind i j k)
-either Q {kind} h u d = cond_ind (eqb kind 0) _ _ Q (λ t. let e = eqb→eq kind 0 t in absurd (omega arith)) (λ _. cond_ind (eqb kind 1) _ _ Q (λ _. u) (λ _. d))
+abbrev pub highs_of : Side → (outer inner : List ℤ) → List ℤ
+highs_of Above outer inner = outer
+highs_of Beneath outer inner = inner
 
-module _ {P : Points} (a : Admitted P) {kind i j k : ℕ} (h : 0 < kind) (g : (i < j) × (j < k) × (k < P.m)) {n : ℤ} (e : n ≡ num P (shown (which_of kind i j k))) where
-  fits : Fits P (shown (which_of kind i j k))
-  fits = either (λ (c : Candidate). Fits P (shown c)) h g g
+-- the points whose highest values are the outer ones for a chord above, and whose lowest are for one beneath
+abbrev pub sided : Side → (m d : ℕ) → (x outer inner : List ℤ) → Points
+sided s m d x outer inner = lent m d x (lows_of s outer inner) (highs_of s outer inner)
+
+-- the outer and the inner values are as small as the lowest and the highest
+module _ (s : Side) (m d : ℕ) (x outer inner : List ℤ) (a : Admitted (sided s m d x outer inner)) (i : ℕ) (h : i < m) where
+  pub outer_size : nat_abs (get_or outer i (pos 0)) ≤ most_v
+  outer_size = by s (a.lows i h) (a.highs i h)
+    where
+      by : (s : Side) → nat_abs (get_or (lows_of s outer inner) i (pos 0)) ≤ most_v → nat_abs (get_or (highs_of s outer inner) i (pos 0)) ≤ most_v → nat_abs (get_or outer i (pos 0)) ≤ most_v
+      by Above l u = u
+      by Beneath l u = l
+
+  pub inner_size : nat_abs (get_or inner i (pos 0)) ≤ most_v
+  inner_size = by s (a.lows i h) (a.highs i h)
+    where
+      by : (s : Side) → nat_abs (get_or (lows_of s outer inner) i (pos 0)) ≤ most_v → nat_abs (get_or (highs_of s outer inner) i (pos 0)) ≤ most_v → nat_abs (get_or inner i (pos 0)) ≤ most_v
+      by Above l u = l
+      by Beneath l u = u
+
+module _ {P : Points} (a : Admitted P) (s : Side) {i j k : ℕ} (g : (i < j) × (j < k) × (k < P.m)) {n : ℤ} (e : n ≡ num P (shown (chord_on s i j k))) where
+  -- what holds of a chord above and of one beneath holds of a chord on either side
+  either : (Q : Candidate → Type 0) (s : Side) → Q (Up i j k) → Q (Down i j k) → Q (chord_on s i j k)
+  either Q Above u d = u
+  either Q Beneath u d = d
+
+  fits : Fits P (shown (chord_on s i j k))
+  fits = either (λ (c : Candidate). Fits P (shown c)) s g g
 
   pub chord_size : nat_abs n ≤ 18540000000000
-  chord_size = told_size a (shown (which_of kind i j k)) fits e
+  chord_size = told_size a (shown (chord_on s i j k)) fits e
 
-  pub chord_levelled : {d : ℤ} → d ≡ P.x k -ℤ P.x i → Levelled P (which_of kind i j k) n d
-  chord_levelled q = record { fits = fits; num = e; den = q ∙ either (λ (c : Candidate). P.x k -ℤ P.x i ≡ den P (shown c)) h refl refl }
+  pub chord_levelled : {d : ℤ} → d ≡ P.x k -ℤ P.x i → Levelled P (chord_on s i j k) n d
+  chord_levelled q = record { fits = fits; num = e; den = q ∙ either (λ (c : Candidate). P.x k -ℤ P.x i ≡ den P (shown c)) s refl refl }
 
 -- ---- what stands above the stroke, of the gaps and the rises that the code reads
 module _ (m d : ℕ) (x outer inner : List ℤ) (i j k : ℕ) where

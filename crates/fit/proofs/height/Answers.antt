@@ -18,7 +18,7 @@ abbrev whole : E
 whole = var 1 ⊗ var 3 ⊖ var 0 ⊗ var 2
 
 pub overflow_sub-result : goal.overflow_sub-result
-overflow_sub-result c = let s = c in safe (ρ (goal.at.overflow_sub-result c).Start) β s.requires whole tt
+overflow_sub-result c = safe (ρ (goal.at.overflow_sub-result c).Start) β c.requires whole tt
 
 pub returns : goal.returns
-returns c = let s = c in ends (ρ (goal.at.returns c).Start) β s.requires whole tt
+returns c = ends (ρ (goal.at.returns c).Start) β c.requires whole tt

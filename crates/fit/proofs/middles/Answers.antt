@@ -38,23 +38,20 @@ pub midway-requires : goal.midway-requires
 midway-requires c =
     let s = start (goal.at.midway-requires c).After-rise in
     let a = s.requires.0 in
-    let h = c in
-    let e = h.through.ensures in
-    let u = h.through-2.ensures in
+    let e = c.through.ensures in
+    let u = c.through-2.ensures in
     let r : stored c.rise.result ≡ c.rise.result = to_z-of_z {w = w64} (search rules) in
     let w : nat_abs (stored c.rise.result) ≤ most_a = subst (λ (z : ℤ). nat_abs z ≤ most_a) (sym r) c.rise.ensures.small in
     record { bounds = (e.a_most, (e.b_most, (e.s_most, (u.a_most, (u.b_most, (w, (a.unit, tt))))))); over = record { rise = gap_some a s.requires.1 s.requires.2 e; sign = subst (λ (z : ℤ). pos 0 ≤ℤ z) (sym (wide (goal.at.midway-requires c).After-rise)) (le_sign (a.proper.order s.args.i (first (goal.at.midway-requires c).Start))); unit = a.proper.unit } }
 
 pub returns : goal.returns
 returns c =
-    let r = c in
     let s = start (goal.at.returns c).After-rise in
     let P = points (goal.at.returns c).Start in
     let i = s.args.i in
     let j = s.args.j in
-    let h = c in
-    let e = h.through.ensures in
-    let u = h.through-2.ensures in
+    let e = c.through.ensures in
+    let u = c.through-2.ensures in
     parts_is
     (ap₂ ◌+ℤ◌ e.a_is u.a_is ∙ ring (P.low i ∷ P.low j ∷ P.high i ∷ P.high j ∷ []) (var 1 ⊖ var 0 ⊕ (var 3 ⊖ var 2)) (var 1 ⊕ var 3 ⊖ (var 0 ⊕ var 2)) tt)
     (ap₂ ◌+ℤ◌ e.b_is u.b_is

@@ -19,4 +19,4 @@ pub shifted_of-requires : goal.shifted_of-requires
 shifted_of-requires c = drawn (goal.at.shifted_of-requires c).Else-not-is_drawn
 
 pub returns : goal.returns
-returns c = let t = c in let d = drawn (goal.at.returns c).Else-not-is_drawn in (d.0, d.1, t.shifted_of.ensures.due c.told.result c.told.ensures)
+returns c = let d = drawn (goal.at.returns c).Else-not-is_drawn in (d.0, d.1, c.shifted_of.ensures.due c.from.result c.from.ensures)

@@ -37,33 +37,24 @@ other c = omega (arith, c.twin-j.ensures.reach, c.if-j-m.false)
 
 below : (c : Else-i-j) → c.twin-j.result < c.args.i
 below c =
-    let t = c in
-    let n : t.args.i ≡ t.twin-j.result → ⊥ = twin_other (points c.before.before.before) t.args.i t.twin-j.ensures (other c.before) in
+    let n : c.args.i ≡ c.twin-j.result → ⊥ = twin_other (points c.before.before.before) c.args.i c.twin-j.ensures (other c.before) in
     omega (arith, c.if-i-j.false, n)
 
 pub returns-then-j-m : goal.returns-then-j-m
 returns-then-j-m c =
-    let t = c in
-    let s = c in
-    let m = s.args.m in
-    let i = s.args.i in
-    let none : FirstNot m (apart (points (goal.at.returns-then-j-m c).Start) i) m = subst (FirstNot m (apart (points (goal.at.returns-then-j-m c).Start) i)) c.if-j-m.true t.twin-j.ensures in
-    let p = subst (λ (z : ℤ). ReachParts z s.args.d c.only.result) (width (goal.at.returns-then-j-m c).Start) c.only.ensures in
-    several_plotted (λ k t. (s.requires.0, several_best s.requires.0 i (greatest (goal.at.returns-then-j-m c).Start) (alone s.requires.1 i s.requires.2 none) (tells_wide p t) (size (goal.at.returns-then-j-m c).Start)))
+    let m = c.args.m in
+    let i = c.args.i in
+    let none : FirstNot m (apart (points (goal.at.returns-then-j-m c).Start) i) m = subst (FirstNot m (apart (points (goal.at.returns-then-j-m c).Start) i)) c.if-j-m.true c.twin-j.ensures in
+    let p = subst (λ (z : ℤ). ReachParts z c.args.d c.only.result) (width (goal.at.returns-then-j-m c).Start) c.only.ensures in
+    several_plotted (λ k t. (c.requires.0, several_best c.requires.0 i (greatest (goal.at.returns-then-j-m c).Start) (alone c.requires.1 i c.requires.2 none) (tells_wide p t) (size (goal.at.returns-then-j-m c).Start)))
 
 pub returns-then-i-j : goal.returns-then-i-j
 returns-then-i-j c =
-    let e = c in
-    let t = c in
-    let s = c in
-    let i = s.args.i in
-    line_plotted (λ f u. (s.requires.0, pair_best s.requires.0.proper (near s.requires.0) i t.twin-j.result e.if-i-j.true (other (goal.at.returns-then-i-j c).Else-j-m) (greatest (goal.at.returns-then-i-j c).Start) (sym (twin_same (points (goal.at.returns-then-i-j c).Start) i t.twin-j.ensures (other (goal.at.returns-then-i-j c).Else-j-m))) (tells_parts c.middles.ensures u)))
+    let i = c.args.i in
+    line_plotted (λ f u. (c.requires.0, pair_best c.requires.0.proper (near c.requires.0) i c.twin-j.result c.if-i-j.true (other (goal.at.returns-then-i-j c).Else-j-m) (greatest (goal.at.returns-then-i-j c).Start) (sym (twin_same (points (goal.at.returns-then-i-j c).Start) i c.twin-j.ensures (other (goal.at.returns-then-i-j c).Else-j-m))) (tells_parts c.middles.ensures u)))
 
 pub returns-else-i-j : goal.returns-else-i-j
 returns-else-i-j c =
-    let e = c in
-    let t = c in
-    let s = c in
-    let i = s.args.i in
-    let q = twin_same (points (goal.at.returns-else-i-j c).Start) i t.twin-j.ensures (other (goal.at.returns-else-i-j c).Else-j-m) in
-    line_plotted (λ f u. (s.requires.0, pair_best s.requires.0.proper (near s.requires.0) t.twin-j.result i (below (goal.at.returns-else-i-j c).Else-i-j) (greatest (goal.at.returns-else-i-j c).Start).fits (greatest_twin q (other (goal.at.returns-else-i-j c).Else-j-m) (greatest (goal.at.returns-else-i-j c).Start)) q (tells_parts c.middles-else-i-j.ensures u)))
+    let i = c.args.i in
+    let q = twin_same (points (goal.at.returns-else-i-j c).Start) i c.twin-j.ensures (other (goal.at.returns-else-i-j c).Else-j-m) in
+    line_plotted (λ f u. (c.requires.0, pair_best c.requires.0.proper (near c.requires.0) c.twin-j.result i (below (goal.at.returns-else-i-j c).Else-i-j) (greatest (goal.at.returns-else-i-j c).Start).fits (greatest_twin q (other (goal.at.returns-else-i-j c).Else-j-m) (greatest (goal.at.returns-else-i-j c).Start)) q (tells_parts c.middles-else-i-j.ensures u)))

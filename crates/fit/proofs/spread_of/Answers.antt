@@ -21,21 +21,15 @@ some : (s : Start) → 0 < s.args.m
 some s = omega (arith, s.requires.0.three)
 
 pub loop-i-init : goal.loop-i-init
-loop-i-init c = let s = c in ranged_none (points (goal.at.loop-i-init c).Start) s.args.e s.requires.1 (some (goal.at.loop-i-init c).Start)
+loop-i-init c = ranged_none (points (goal.at.loop-i-init c).Start) c.args.e c.requires.1 (some (goal.at.loop-i-init c).Start)
 
 pub loop-i-preserved : goal.loop-i-preserved
 loop-i-preserved c =
-    let h = c in
-    let v = c in
-    let g = c in
-    let t = c in
-    let l = c in
-    let s = c in
-    let e = s.args.e in
-    let lift = to_z-of_z {w = w64} (search rules) ∙ v.rise.ensures.value ∙ ap₂ (λ (w z : Part). w.count -ℤ z.count) v.part_at.ensures l.part_at-v.ensures in
-    let run = to_z-of_z {w = w64} (search rules) ∙ g.gap.ensures.value ∙ ap₂ (λ (z x : Input). z.count -ℤ x.count) g.input_at.ensures l.input_at-p.ensures in
-    ranged_more l.loop-i.invariant t.loop-i-test.true
-    (to_z-of_z {w = w64} (search rules) ∙ h.height.ensures ∙ ap₂ (λ (y z : ℤ). e.s *ℤ y -ℤ e.a *ℤ z) lift run ∙ above_from (points (goal.at.loop-i-preserved c).Start) e s.requires.1 l.loop-i.i) c.wider-r.ensures
+    let e = c.args.e in
+    let lift = to_z-of_z {w = w64} (search rules) ∙ c.rise.ensures.value ∙ ap₂ (λ (w z : Part). w.count -ℤ z.count) c.part_at.ensures c.part_at-v.ensures in
+    let run = to_z-of_z {w = w64} (search rules) ∙ c.gap.ensures.value ∙ ap₂ (λ (z x : Input). z.count -ℤ x.count) c.input_at.ensures c.input_at-p.ensures in
+    ranged_more c.loop-i.invariant (omega arith)
+    (to_z-of_z {w = w64} (search rules) ∙ c.height.ensures ∙ ap₂ (λ (y z : ℤ). e.s *ℤ y -ℤ e.a *ℤ z) lift run ∙ above_from (points (goal.at.loop-i-preserved c).Start) e c.requires.1 c.loop-i.i) c.wider-r.ensures
 
 pub returns : goal.returns
-returns c = ranged_all c.loop-i.invariant c.loop-i-test.false
+returns c = ranged_all c.loop-i.invariant (omega arith)

@@ -19,4 +19,4 @@ pub terminal_of-requires : goal.terminal_of-requires
 terminal_of-requires c = drawn (goal.at.terminal_of-requires c).Else-not-is_drawn
 
 pub returns : goal.returns
-returns c = let t = c in let d = drawn (goal.at.returns c).Else-not-is_drawn in (d.0, d.1, t.terminal_of.ensures.due c.told.result c.told.ensures)
+returns c = let d = drawn (goal.at.returns c).Else-not-is_drawn in (d.0, d.1, c.terminal_of.ensures.due c.from.result c.from.ensures)

@@ -14,6 +14,5 @@ plain-requires c = numbers (goal.at.plain-requires c).After-spread_of-r
 
 pub returns : goal.returns
 returns c =
-    let s = c in
-    let h = s.requires in
-    record { due = λ f t. terminal_due h.0 h.1 s.through-e.ensures s.spread_of-r.ensures (numbers (goal.at.returns c).After-spread_of-r) (tells_parts c.plain.ensures t) }
+    let h = c.requires in
+    record { due = λ f t. terminal_due h.0 h.1 c.through-e.ensures c.spread_of-r.ensures (numbers (goal.at.returns c).After-spread_of-r) (tells_parts c.plain.ensures t) }

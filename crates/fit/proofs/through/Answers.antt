@@ -33,22 +33,19 @@ products c = (c.times.ensures.small, (c.times-2.ensures.small, tt))
 
 pub returns : goal.returns
 returns c =
-    let t = c in
-    let r = c in
-    let read = c in
-    let p = read.input_at-p.ensures in
-    let q = read.input_at-q.ensures in
-    let u = read.part_at-a.ensures in
-    let v = read.part_at-c.ensures in
+    let p = c.input_at-p.ensures in
+    let q = c.input_at-q.ensures in
+    let u = c.part_at-a.ensures in
+    let v = c.part_at-c.ensures in
     let rise = to_z-of_z {w = w64} (search rules) in
     let gap = to_z-of_z {w = w64} (search rules) in
     record {
-      a_is = rise ∙ r.rise.ensures.value ∙ ap₂ (λ (w z : Part). w.count -ℤ z.count) v u;
+      a_is = rise ∙ c.rise.ensures.value ∙ ap₂ (λ (w z : Part). w.count -ℤ z.count) v u;
       b_is =
           ends (σ (goal.at.returns c).After-times-2) β (products (goal.at.returns c).After-times-2) offset tt
-          ∙ ap₂ ◌-ℤ◌ (t.times.ensures.value ∙ ap₂ (λ (x : Input) (w : Part). x.count *ℤ w.count) q u) (t.times-2.ensures.value ∙ ap₂ (λ (x : Input) (w : Part). x.count *ℤ w.count) p v);
+          ∙ ap₂ ◌-ℤ◌ (c.times.ensures.value ∙ ap₂ (λ (x : Input) (w : Part). x.count *ℤ w.count) q u) (c.times-2.ensures.value ∙ ap₂ (λ (x : Input) (w : Part). x.count *ℤ w.count) p v);
       s_is = gap ∙ c.gap.ensures.value ∙ ap₂ (λ (z x : Input). z.count -ℤ x.count) q p;
-      a_most = kept most_a rise r.rise.ensures.small;
+      a_most = kept most_a rise c.rise.ensures.small;
       b_most = stays (σ (goal.at.returns c).After-times-2) β (products (goal.at.returns c).After-times-2) offset most_b tt tt;
       s_most = kept most_gap gap c.gap.ensures.small;
     }

@@ -10,7 +10,7 @@ abbrev P : Start → Points
 P s = let a = s.args in lent a.m a.d a.x.now a.low.now a.high.now
 
 pub returns-then-not-is_drawn : goal.returns-then-not-is_drawn
-returns-then-not-is_drawn c = let t = c in drawn_no (P (goal.at.returns-then-not-is_drawn c).Start) (sym t.is_drawn.ensures ∙ c.if-not-is_drawn.true)
+returns-then-not-is_drawn c = drawn_no (P (goal.at.returns-then-not-is_drawn c).Start) (sym c.is_drawn.ensures ∙ c.if-not-is_drawn.true)
 
 pub front_of-requires : goal.front_of-requires
-front_of-requires c = let t = c in drawn_yes (P (goal.at.front_of-requires c).Start) (sym t.is_drawn.ensures ∙ c.if-not-is_drawn.false)
+front_of-requires c = drawn_yes (P (goal.at.front_of-requires c).Start) (sym c.is_drawn.ensures ∙ c.if-not-is_drawn.false)

@@ -21,26 +21,21 @@ P s = let a = s.args in lent a.m a.d a.x.now a.low.now a.high.now
 
 pub pinned-requires : goal.pinned-requires
 pinned-requires c =
-    let i = c in
-    let s = c in
-    let h = s.requires in
-    let any : 0 < s.args.m = omega (arith, h.0.three) in record {
+    let h = c.requires in
+    let any : 0 < c.args.m = omega (arith, h.0.three) in record {
       ready = (
         record {
           admitted = h.0;
-          x_most = subst (λ (u : Input). nat_abs u.count ≤ most_x) (sym i.input_at.ensures) (h.0.inputs 0 any);
+          x_most = subst (λ (u : Input). nat_abs u.count ≤ most_x) (sym c.input_at.ensures) (h.0.inputs 0 any);
           v_most = subst (λ (u : Part). nat_abs u.count ≤ most_v) (sym c.part_at.ensures) (h.0.lows 0 any);
         },
-        subst (λ (u : Input). Beyond (P (goal.at.pinned-requires c).Start) u.count) (sym i.input_at.ensures) (beyond_first h.0.proper (≤ℤ_refl ((P (goal.at.pinned-requires c).Start).x 0))),
+        subst (λ (u : Input). Beyond (P (goal.at.pinned-requires c).Start) u.count) (sym c.input_at.ensures) (beyond_first h.0.proper (≤ℤ_refl ((P (goal.at.pinned-requires c).Start).x 0))),
       );
       one_value = h.1;
     }
 
 pub returns : goal.returns
 returns c =
-    let l = c in
-    let i = c in
-    let s = c in
     let r = c.pinned.result in
-    plot_due (front_due s.requires.0 s.requires.1)
-    (subst (λ (u : Part). PlotDue (PinDue (P (goal.at.returns c).Start) (record { x = (first (P (goal.at.returns c).Start)).x; v = u })) r) l.part_at.ensures (subst (λ (v : Input). PlotDue (PinDue (P (goal.at.returns c).Start) (record { x = v; v = l.part_at.result })) r) i.input_at.ensures c.pinned.ensures))
+    plot_due (front_due c.requires.0 c.requires.1)
+    (subst (λ (u : Part). PlotDue (PinDue (P (goal.at.returns c).Start) (record { x = (first (P (goal.at.returns c).Start)).x; v = u })) r) c.part_at.ensures (subst (λ (v : Input). PlotDue (PinDue (P (goal.at.returns c).Start) (record { x = v; v = c.part_at.result })) r) c.input_at.ensures c.pinned.ensures))

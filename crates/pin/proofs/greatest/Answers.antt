@@ -8,16 +8,14 @@ use Rattle.pin.specs.SearchLaws.{firsts_none, firsts_more, found}
 use Rattle.pin.proofs.greatest.Goals as goal
 
 pub loop-i-init : goal.loop-i-init
-loop-i-init c = let s = c in (firsts_none s.requires.1 c.pair_of-best.ensures.paired, omega arith, omega (arith, s.requires.1.most, s.requires.0.admitted.three))
+loop-i-init c = firsts_none c.requires.1 c.pair_of-best.ensures.paired
 
 pub loop-i-preserved : goal.loop-i-preserved
-loop-i-preserved c =
-    let l = c in
-    (firsts_more l.loop-i.invariant.0 c.over_partners-best.ensures, omega (arith, l.loop-i.invariant.1), omega (arith, c.loop-i-test.true))
+loop-i-preserved c = firsts_more c.loop-i.invariant c.over_partners-best.ensures
 
 pub returns : goal.returns
 returns c =
     let l = c.loop-i in
     let a = c.args in
-    let e : l.i ≡ a.m = omega (arith, l.invariant.2, c.loop-i-test.false) in
-    found (subst (λ (n : ℕ). Firsts (lent a.m a.d a.x.now a.low.now a.high.now) a.p n l.best) e l.invariant.0)
+    let e : l.i ≡ a.m = omega (arith, c.requires.1.most, c.requires.0.admitted.three) in
+    found (subst (λ (n : ℕ). Firsts (lent a.m a.d a.x.now a.low.now a.high.now) a.p n l.best) e l.invariant)

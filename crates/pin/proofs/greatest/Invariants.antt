@@ -1,11 +1,7 @@
 -- `pin::greatest` meets its contract: before each turn the pairs of the inputs up to i with later ones are tried, and at the end every pair is, in one order.
-use Prim.Native.Nat.{◌-◌, ◌≤◌}
 use Rattle.band.specs.Band.{lent}
 use Rattle.pin.specs.Search.{Firsts}
 use Rattle.pin.proofs.greatest.Given as goal
 
 abbrev pub invariant-loop-i : goal.invariant-loop-i
-invariant-loop-i l = Firsts (lent l.m l.d l.x l.low l.high) l.p l.i l.best × (l.n ≤ l.i) × (l.i ≤ l.m)
-
-abbrev pub decreases-loop-i : goal.decreases-loop-i
-decreases-loop-i l = l.m - l.i
+invariant-loop-i l = Firsts (lent l.m l.d l.x l.low l.high) l.p l.i l.best

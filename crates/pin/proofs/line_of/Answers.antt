@@ -45,23 +45,21 @@ offset P x v i j =
     ring (P.x i ∷ P.x j ∷ P.low i ∷ P.low j ∷ x ∷ v ∷ []) ((y ⊗ w ⊖ u ⊗ k) ⊕ (z ⊗ w ⊖ u ⊗ l)) (w ⊗ ((y ⊖ u) ⊕ (z ⊖ u)) ⊖ ((k ⊖ w) ⊕ (l ⊖ w)) ⊗ u) tt
 
 pub overflow_mul-t : goal.overflow_mul-t
-overflow_mul-t c = let r = c in safe (ρ (goal.at.overflow_mul-t c).After-offset_of-v) β (bounds (goal.at.overflow_mul-t c).After-offset_of-v) four.q tt
+overflow_mul-t c = safe (ρ (goal.at.overflow_mul-t c).After-offset_of-v) β (bounds (goal.at.overflow_mul-t c).After-offset_of-v) four.q tt
 
 pub lay-requires : goal.lay-requires
 lay-requires c =
-    let r = c in
     let t = (start (goal.at.lay-requires c).After-offset_of-v).requires.1 in
     let e = t.den_is in
     whole_by (ρ (goal.at.lay-requires c).After-offset_of-v) β (bounds (goal.at.lay-requires c).After-offset_of-v) four tt (positive_mul (subst (λ (z : ℤ). pos 0 <ℤ z) (sym e) (den_positive t.fits)) (positive_nat (start (goal.at.lay-requires c).After-offset_of-v).requires.0.admitted.proper.unit)) t.sign
 
 pub returns : goal.returns
 returns c =
-    let r = c in
     let a = (start (goal.at.returns c).After-offset_of-v).args in
     let p = a.p in
     let t = (start (goal.at.returns c).After-offset_of-v).requires.1 in
     parts_is
-    (ap₂ ◌+ℤ◌ r.rise_of-a.ensures.value r.rise_of-b.ensures.value)
-    (ap₂ ◌+ℤ◌ r.offset_of-u.ensures.value r.offset_of-v.ensures.value ∙ offset (P (start (goal.at.returns c).After-offset_of-v)) p.x.count p.v.count a.t.i a.t.j ∙ ap (λ (z : ℤ). p.v.count *ℤ z -ℤ (rise (P (start (goal.at.returns c).After-offset_of-v)) p.v.count a.t.i +ℤ rise (P (start (goal.at.returns c).After-offset_of-v)) p.v.count a.t.j) *ℤ p.x.count) (sym t.den_is))
+    (ap₂ ◌+ℤ◌ c.rise_of-a.ensures.value c.rise_of-b.ensures.value)
+    (ap₂ ◌+ℤ◌ c.offset_of-u.ensures.value c.offset_of-v.ensures.value ∙ offset (P (start (goal.at.returns c).After-offset_of-v)) p.x.count p.v.count a.t.i a.t.j ∙ ap (λ (z : ℤ). p.v.count *ℤ z -ℤ (rise (P (start (goal.at.returns c).After-offset_of-v)) p.v.count a.t.i +ℤ rise (P (start (goal.at.returns c).After-offset_of-v)) p.v.count a.t.j) *ℤ p.x.count) (sym t.den_is))
     refl refl
     (parts_by (ρ (goal.at.returns c).After-offset_of-v) β (bounds (goal.at.returns c).After-offset_of-v) four tt c.lay.ensures)

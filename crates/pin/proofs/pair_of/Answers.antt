@@ -18,17 +18,12 @@ P s = lent s.args.m s.args.d s.args.x.now s.args.low.now s.args.high.now
 
 pub returns : goal.returns
 returns c =
-    let n = c in
-    let k = c in
-    let b = c in
-    let a = c in
-    let s = c in
-    let p = s.args.p in
-    let a_is = to_z-of_z {w = w64} (search rules) ∙ a.rise_of.ensures.value in
-    let b_is = to_z-of_z {w = w64} (search rules) ∙ b.rise_of-2.ensures.value in
-    let k-is = to_z-of_z {w = w64} (search rules) ∙ k.ahead_of.ensures.value in
-    let n_is = to_z-of_z {w = w64} (search rules) ∙ n.ahead_of-2.ensures.value in
-    told_pair s.requires.0 s.requires.1
+    let p = c.args.p in
+    let a_is = to_z-of_z {w = w64} (search rules) ∙ c.rise_of.ensures.value in
+    let b_is = to_z-of_z {w = w64} (search rules) ∙ c.rise_of-2.ensures.value in
+    let k-is = to_z-of_z {w = w64} (search rules) ∙ c.ahead_of.ensures.value in
+    let n_is = to_z-of_z {w = w64} (search rules) ∙ c.ahead_of-2.ensures.value in
+    told_pair c.requires.0 c.requires.1
     (c.paired.ensures
-    ∙ ap₂ (λ (a b : ℤ). ordered s.args.i s.args.j a b (stored k.ahead_of.result) (stored n.ahead_of-2.result)) a_is b_is
-    ∙ ap₂ (ordered s.args.i s.args.j (rise (P (goal.at.returns c).Start) p.v.count s.args.i) (rise (P (goal.at.returns c).Start) p.v.count s.args.j)) k-is n_is)
+    ∙ ap₂ (λ (a b : ℤ). ordered c.args.i c.args.j a b (stored c.ahead_of.result) (stored c.ahead_of-2.result)) a_is b_is
+    ∙ ap₂ (ordered c.args.i c.args.j (rise (P (goal.at.returns c).Start) p.v.count c.args.i) (rise (P (goal.at.returns c).Start) p.v.count c.args.j)) k-is n_is)

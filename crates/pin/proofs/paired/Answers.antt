@@ -47,7 +47,7 @@ pub overflow_add-result-else-u-v : goal.overflow_add-result-else-u-v
 overflow_add-result-else-u-v c = safe (ρ (goal.at.overflow_add-result-else-u-v c).Start) β c.requires (var 2 ⊕ var 3) tt
 
 pub returns-then-u-v : goal.returns-then-u-v
-returns-then-u-v c = let s = c in made (goal.at.returns-then-u-v c).Start s.args.j s.args.i (v ⊖ u) (var 3 ⊕ var 2) tt tt ∙ chosen (goal.at.returns-then-u-v c).Start c.if-u-v.true
+returns-then-u-v c = made (goal.at.returns-then-u-v c).Start c.args.j c.args.i (v ⊖ u) (var 3 ⊕ var 2) tt tt ∙ chosen (goal.at.returns-then-u-v c).Start c.if-u-v.true
 
 pub returns-else-u-v : goal.returns-else-u-v
-returns-else-u-v c = let s = c in made (goal.at.returns-else-u-v c).Start s.args.i s.args.j (u ⊖ v) (var 2 ⊕ var 3) tt tt ∙ chosen (goal.at.returns-else-u-v c).Start c.if-u-v.false
+returns-else-u-v c = made (goal.at.returns-else-u-v c).Start c.args.i c.args.j (u ⊖ v) (var 2 ⊕ var 3) tt tt ∙ chosen (goal.at.returns-else-u-v c).Start c.if-u-v.false

@@ -36,19 +36,15 @@ test c =
     sym (c.exceeds.ensures ∙ ap₂ lt_z (ap (λ (z : ℤ). z *ℤ pos 1) (is (var 1) tt)) (ap₂ ◌*ℤ◌ (is (var 0) tt) (is (var 2) tt)))
 
 pub only-requires : goal.only-requires
-only-requires c = let o = c in (stays (ρ (goal.at.only-requires c).After-own_distance-own) β (bounds (goal.at.only-requires c).After-own_distance-own) (lit 2 ⊗ var 0) most_e tt tt, (start (goal.at.only-requires c).After-own_distance-own).requires.ready.0.admitted.unit)
+only-requires c = (stays (ρ (goal.at.only-requires c).After-own_distance-own) β (bounds (goal.at.only-requires c).After-own_distance-own) (lit 2 ⊗ var 0) most_e tt tt, (start (goal.at.only-requires c).After-own_distance-own).requires.ready.0.admitted.unit)
 
 pub returns-then-exceeds : goal.returns-then-exceeds
 returns-then-exceeds c =
-    let e = c in
-    let o = c in
     let h = (start (goal.at.returns-then-exceeds c).After-own_distance-own).requires in
     let p = subst (λ (z : ℤ). ReachParts z (start (goal.at.returns-then-exceeds c).After-own_distance-own).args.d c.only.result) (ends (ρ (goal.at.returns-then-exceeds c).After-own_distance-own) β (bounds (goal.at.returns-then-exceeds c).After-own_distance-own) (lit 2 ⊗ var 0) tt) c.only.ensures in
-    several_plotted (λ k t. several_due h.ready.0 h.one_value h.ready.1 o.greatest-t.ensures o.own_distance-own.ensures (test (goal.at.returns-then-exceeds c).After-exceeds ∙ c.if-exceeds.true) (tells_wide p t))
+    several_plotted (λ k t. several_due h.ready.0 h.one_value h.ready.1 c.greatest-t.ensures c.own_distance-own.ensures (test (goal.at.returns-then-exceeds c).After-exceeds ∙ c.if-exceeds.true) (tells_wide p t))
 
 pub returns : goal.returns
 returns c =
-    let e = c in
-    let o = c in
     let h = (start (goal.at.returns c).After-own_distance-own).requires in
-    line_plotted (λ f t. line_due h.ready.0 h.one_value h.ready.1 o.greatest-t.ensures o.own_distance-own.ensures (test (goal.at.returns c).After-exceeds ∙ c.if-exceeds.false) (tells_parts c.line_of.ensures t))
+    line_plotted (λ f t. line_due h.ready.0 h.one_value h.ready.1 c.greatest-t.ensures c.own_distance-own.ensures (test (goal.at.returns c).After-exceeds ∙ c.if-exceeds.false) (tells_parts c.line_of.ensures t))

@@ -11,7 +11,7 @@ use Rattle.pin.proofs.start_of.Goals as goal
 
 -- what was tested
 test : (c : After-is_below) → let a = c.args in lt_z a.p.x.count (get_or a.x.now 0 (pos 0)) ≡ c.is_below.result
-test c = let i = c in sym (c.is_below.ensures ∙ ap (λ (u : Input). lt_z i.args.p.x.count u.count) i.input_at.ensures)
+test c = sym (c.is_below.ensures ∙ ap (λ (u : Input). lt_z c.args.p.x.count u.count) c.input_at.ensures)
 
 pub returns-then-is_below : goal.returns-then-is_below
-returns-then-is_below c = let s = c in start_first s.requires.0.admitted.proper (lt_z_yes (yes-T (test (goal.at.returns-then-is_below c).After-is_below ∙ c.if-is_below.true)))
+returns-then-is_below c = start_first c.requires.0.admitted.proper (lt_z_yes (yes-T (test (goal.at.returns-then-is_below c).After-is_below ∙ c.if-is_below.true)))

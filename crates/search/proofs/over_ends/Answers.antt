@@ -4,7 +4,4 @@ use Rattle.search.specs.OverLaws.{ends_more}
 use Rattle.search.proofs.over_ends.Goals as goal
 
 pub loop-k-preserved : goal.loop-k-preserved
-loop-k-preserved c =
-    let l = c in
-    let h = c.loop-k-test.true in
-    (ends_more l.requires.0 h l.loop-k.invariant.0 c.over_middles-t.ensures, omega (arith, l.loop-k.invariant.1), omega (arith, h))
+loop-k-preserved c = ends_more c.requires.0 (omega arith) c.loop-k.invariant c.over_middles-t.ensures

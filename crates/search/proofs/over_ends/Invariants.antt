@@ -1,11 +1,7 @@
 -- `search::over_ends` meets its contract: the chords to every input that was passed are below the candidate that is held, and nothing that was below the old one is lost.
-use Prim.Native.Nat.{◌-◌, ◌<◌, ◌≤◌}
 use Rattle.band.specs.Band.{lent}
 use Rattle.search.specs.Over.{Ends}
 use Rattle.search.proofs.over_ends.Given as goal
 
 abbrev pub invariant-loop-k : goal.invariant-loop-k
-invariant-loop-k l = Ends (lent l.m l.d l.x l.low l.high) l.initial.t l.i l.k l.t × (l.i < l.k) × (l.k ≤ l.m)
-
-abbrev pub decreases-loop-k : goal.decreases-loop-k
-decreases-loop-k l = l.m - l.k
+invariant-loop-k l = Ends (lent l.m l.d l.x l.low l.high) l.initial.t l.i l.k l.t

@@ -3,12 +3,8 @@ use native.Mathlib.Omega.{arith}
 use Rattle.search.specs.OverLaws.{both_sizes, singles_more}
 use Rattle.search.proofs.over_inputs.Goals as goal
 
-pub with_input-t-requires : goal.with_input-t-requires
-with_input-t-requires c = let l = c in both_sizes l.requires l.loop-i.invariant.0.holds c.alone.ensures.holds
+pub with-t-requires : goal.with-t-requires
+with-t-requires c = both_sizes c.requires c.loop-i.invariant.holds c.alone.ensures.holds
 
 pub loop-i-preserved : goal.loop-i-preserved
-loop-i-preserved c =
-    let e = c in
-    let l = c in
-    let h = e.loop-i-test.true in
-    (singles_more l.requires h l.loop-i.invariant.0 e.alone.ensures c.with_input-t.ensures, omega (arith, h))
+loop-i-preserved c = singles_more c.requires (omega arith) c.loop-i.invariant c.alone.ensures c.with-t.ensures

@@ -1,11 +1,7 @@
 -- `search::over_inputs` meets its contract: every input that was passed is below the one that is held.
-use Prim.Native.Nat.{◌-◌, ◌≤◌}
 use Rattle.band.specs.Band.{lent}
 use Rattle.search.specs.Over.{Singles}
 use Rattle.search.proofs.over_inputs.Given as goal
 
 abbrev pub invariant-loop-i : goal.invariant-loop-i
-invariant-loop-i l = Singles (lent l.m l.d l.x l.low l.high) l.i l.t × (l.i ≤ l.m)
-
-abbrev pub decreases-loop-i : goal.decreases-loop-i
-decreases-loop-i l = l.m - l.i
+invariant-loop-i l = Singles (lent l.m l.d l.x l.low l.high) l.i l.t
