@@ -1,5 +1,5 @@
 -- The walk over the records of a file that numbers them: what it keeps, and what each step adds. The method; what is promised is said over the records.
-use Rattle.std.specs.Prelude.{◌≡◌, Bool, cond, ◌&&◌, ltb, leb, eqb, ℤ, length, get_or, take, drop}
+use Rattle.std.specs.Prelude.{◌≡◌, Bool, cond, ltb, leb, eqb, ℤ, length, get_or, take, drop}
 use Rattle.std.proofs.Math.Path.{refl, ap, subst}
 use Rattle.std.proofs.Common.{sym, ◌∙◌, add-one, arith, eqb-true, ne_eqb, lt-ltb, le-ltb, ltb-true, ltb-false, le-leb, leb-false, length-append}
 use Rattle.std.proofs.Math.Bool.{true, false}
@@ -7,8 +7,6 @@ use mathlib.Core.List.{List, [], ◌∷◌, ◌++◌, append_assoc, append-nil}
 use Rattle.std.proofs.Math.Option.{none, some}
 use Prim.Native.Nat.{ℕ, suc, ◌+◌, ◌-◌, ◌<◌, ◌≤◌}
 use Rattle.std.proofs.lemmas.Bool.{eqb-false, lt-leb}
-use Rattle.whole.specs.Flags.{apart}
-use Rattle.run.specs.PlaceLaws.{and_true}
 use Rattle.records.specs.Record.{Sizes, Entry, Record, opening, entry, unknown, cut, Labelled, at_label, Recorded, closes}
 use Rattle.format.specs.Format.{kind_of, alone, in_front}
 use Rattle.format.specs.Found.{Standing, stands, ends, strange, standing_of, standing_at, stands_within, from, met, met_at}
@@ -212,14 +210,6 @@ nothing_before s limit t over = go (eqb t.more 0) refl
     go false e = let n = eqb-false t.more 0 e in none_from s limit t.at (beyond (omega (arith, n)) (ltb t.at limit) refl) (eqb t.at 0)
 
 -- ---- the walk
--- its test
-module _ {more at limit : ℕ} {b : Bool} (e : b ≡ (ltb 0 more && ltb at limit)) where
-  pub test_held : b ≡ true → (0 < more) × (at < limit)
-  test_held h = let k = and_true (sym e ∙ h) in (ltb-true 0 more k.0, ltb-true at limit k.1)
-
-  pub test_failed : b ≡ false → 0 < more → at < limit → ⊥
-  test_failed h m a = apart (sym (e ∙ rw (lt-ltb 0 more m, lt-ltb at limit a)) ∙ h)
-
 -- at its start
 pub walk_begins : (s : List ℕ) (limit : ℕ) {labels : List ℕ} {y : List ℤ} → Marked [] labels y → Walked s limit labels y (record { more = 1; k = 1; at = 0 })
 walk_begins s limit pic = record {

@@ -25,17 +25,7 @@ use record::{Found, Record};
 fn is_close(r: Record) -> bool
     ensures { result ≡ closes (as_record r) }
 {
-    match r {
-        Record::Opening { sizes: _ } => false,
-        Record::Point { index: _, x: _ } => false,
-        Record::Value {
-            stroke: _,
-            cycle: _,
-            index: _,
-            y: _,
-        } => false,
-        Record::Close => true,
-    }
+    matches!(r, Record::Close)
 }
 
 // Where the walk over the records is: the number behind the last record that was counted, and where the next one stands; `more` is 1 while there is one to look at.
@@ -88,7 +78,7 @@ fn pass(s: &[u8], labels: &mut [usize; 231], y: &mut [i64; 220], k: usize, at: u
     }
 }
 
-// The numbers of the records that stand before an offset, counted from 1, and the counts of the readings among them. Answers the number behind the last of them.
+// The numbers of the records that stand before an offset, counted from 1, and the counts of the readings among them. Answers the number behind the last of them. A `while`: where the next record stands is told only by the one before it.
 fn number_records(s: &[u8], limit: usize, labels: &mut [usize; 231], y: &mut [i64; 220]) -> usize
     requires { Marked [] labels.old y.old }
     ensures { W.Numbered s.now limit labels.new y.new result }
@@ -98,7 +88,7 @@ fn number_records(s: &[u8], limit: usize, labels: &mut [usize; 231], y: &mut [i6
         k: 1,
         at: 0,
     };
-    while limits::both(0 < t.more, t.at < limit) {
+    while t.more > 0 && t.at < limit {
         t = pass(s, labels, y, t.k, t.at);
     }
     t.k
@@ -203,23 +193,13 @@ fn first_told(s: &[u8], place: usize, labels: &[usize; 231]) -> Detail
     ensures { W.FirstTold s.now place labels.now result }
 {
     match record_at(s, place, false) {
-        Found::Item { record, next: _ } => match record {
-            Record::Opening { sizes: _ } => Detail::Nothing,
-            Record::Point { index: _, x: _ } => Detail::Earlier {
+        Found::Item { record, .. } => match record {
+            Record::Point { .. } | Record::Value { .. } => Detail::Earlier {
                 label: detail::label_of(labels, record),
             },
-            Record::Value {
-                stroke: _,
-                cycle: _,
-                index: _,
-                y: _,
-            } => Detail::Earlier {
-                label: detail::label_of(labels, record),
-            },
-            Record::Close => Detail::Nothing,
+            Record::Opening { .. } | Record::Close => Detail::Nothing,
         },
-        Found::Cut => Detail::Nothing,
-        Found::Unknown => Detail::Nothing,
+        Found::Cut | Found::Unknown => Detail::Nothing,
     }
 }
 
@@ -231,9 +211,7 @@ fn more_at(s: &[u8], number: usize, place: usize, labels: &[usize; 231]) -> Deta
         return first_told(s, place, labels);
     }
     if number == 7 {
-        let t = reader::opening(s);
-        let sizes = t.sizes;
-        return detail::missing(sizes, labels);
+        return detail::missing(reader::opening(s).sizes, labels);
     }
     Detail::Nothing
 }
@@ -251,9 +229,8 @@ fn more_of_point(
     if number != 10 {
         return Detail::Nothing;
     }
-    let t = reader::opening(s);
-    let sizes = t.sizes;
-    detail::apart(sizes.n, sizes.strokes, labels, y, place)
+    let z = reader::opening(s).sizes;
+    detail::apart(z.n, z.strokes, labels, y, place)
 }
 
 // ---- the lines

@@ -1,6 +1,5 @@
 -- `place_text::first_told` meets its contract: only a point and a reading have a place, and its label is what the array has.
-use mathlib.Core.Path.{◌≡◌, sym, ap, ◌∙◌}
-use mathlib.Core.Bool.{false}
+use Rattle.std.proofs.Common.{◌≡◌, sym, ap, ◌∙◌, false, inl, inr}
 use Rattle.format.specs.Found.{standing_at}
 use Rattle.record.specs.Kinds.{run_file, as_standing}
 use Rattle.record.specs.declared.Record.{Record}
@@ -16,10 +15,8 @@ stands c e = sym (ap as_standing (ap (λ (r : Record). Item r c.in-Item.next) (s
 
 pub returns-in-Point : goal.returns-in-Point
 returns-in-Point c =
-    let k = c in
-    told_entry (stands (goal.at.returns-in-Point c).In-Item k.in-Point.is) (rw k.in-Point.is at c.label_of.ensures)
-
-pub returns-in-Value : goal.returns-in-Value
-returns-in-Value c =
-    let k = c in
-    told_entry (stands (goal.at.returns-in-Value c).In-Item k.in-Value.is) (rw k.in-Value.is at c.label_of-in-Value.ensures)
+    let at = (goal.at.returns-in-Point c).In-Item in
+    elim c.in-Point.is [
+      | inl e ↦ told_entry (stands at e.2) (rw e.2 at c.label_of.ensures)
+      | inr e ↦ told_entry (stands at e.4) (rw e.4 at c.label_of.ensures)
+    ]

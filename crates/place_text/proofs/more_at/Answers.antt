@@ -4,11 +4,8 @@ use Rattle.place_text.proofs.more_at.Goals as goal
 
 pub returns-then-number-eq6 : goal.returns-then-number-eq6
 returns-then-number-eq6 c =
-    let then = c in
-    record_six then.requires then.if-number-eq6.true c.first_told.ensures
+    record_six c.requires c.if-number-eq6.true c.first_told.ensures
 
 pub returns-then-number-eq7 : goal.returns-then-number-eq7
 returns-then-number-eq7 c =
-    let o = c in
-    let then = c in
-    record_seven then.requires then.if-number-eq7.true o.opening-t.ensures.is c.missing.ensures
+    record_seven c.requires c.if-number-eq7.true c.opening.ensures.is c.missing.ensures

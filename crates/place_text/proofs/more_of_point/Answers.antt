@@ -4,12 +4,8 @@ use Rattle.place_text.proofs.more_of_point.Goals as goal
 
 pub apart-requires : goal.apart-requires
 apart-requires c =
-    let o = c in
-    let else = c in
-    ten_strokes else.requires else.if-number-ne10.false o.opening-t.ensures.is
+    ten_strokes c.requires c.if-number-ne10.false c.opening.ensures.is
 
 pub returns : goal.returns
 returns c =
-    let o = c in
-    let else = c in
-    point_ten else.requires else.if-number-ne10.false o.opening-t.ensures.is c.apart.ensures
+    point_ten c.requires c.if-number-ne10.false c.opening.ensures.is c.apart.ensures

@@ -2,8 +2,8 @@
 use Rattle.place_text.specs.Walk.{Walked, way_left}
 use Rattle.place_text.proofs.number_records.Given as goal
 
-abbrev pub invariant-loop-labels : goal.invariant-loop-labels
-invariant-loop-labels l = Walked l.s l.limit l.labels l.y l.t
+abbrev pub invariant-loop-t : goal.invariant-loop-t
+invariant-loop-t l = Walked l.s l.limit l.labels l.y l.t
 
-abbrev pub decreases-loop-labels : goal.decreases-loop-labels
-decreases-loop-labels l = way_left l.s l.t
+abbrev pub decreases-loop-t : goal.decreases-loop-t
+decreases-loop-t l = way_left l.s l.t

@@ -14,30 +14,22 @@ stands_there c = sym (ap as_standing (sym c.in-Item.is) ∙ c.record_at.ensures)
 
 pub returns-then-is_close : goal.returns-then-is_close
 returns-then-is_close c =
-    let m = c in
-    let r = c in
-    let a = r.args in
-    passed_close a.s.now a.k a.at _ _ (stands_there (goal.at.returns-then-is_close c).In-Item) m.mark.ensures (sym c.is_close.ensures ∙ c.if-is_close.true)
+    let a = c.args in
+    passed_close a.s.now a.k a.at _ _ (stands_there (goal.at.returns-then-is_close c).In-Item) c.mark.ensures (sym c.is_close.ensures ∙ c.if-is_close.true)
 
 pub returns-else-is_close : goal.returns-else-is_close
 returns-else-is_close c =
-    let m = c in
-    let r = c in
-    let start = c in
-    let a = start.args in
-    passed_record a.s.now a.k a.at _ _ (stands_there (goal.at.returns-else-is_close c).In-Item) m.mark.ensures start.requires.1 (sym c.is_close.ensures ∙ c.if-is_close.false)
+    let a = c.args in
+    passed_record a.s.now a.k a.at _ _ (stands_there (goal.at.returns-else-is_close c).In-Item) c.mark.ensures c.requires.1 (sym c.is_close.ensures ∙ c.if-is_close.false)
 
 pub returns-in-Cut : goal.returns-in-Cut
 returns-in-Cut c =
-    let k = c in
-    let start = c in
-    let a = start.args in
-    let e = sym (ap as_standing (sym k.in-Cut.is) ∙ k.record_at.ensures) in
-    rw c.behind.ensures (passed_ends a.s.now a.k a.at start.requires.0 e)
+    let a = c.args in
+    let e = sym (ap as_standing (sym c.in-Cut.is) ∙ c.record_at.ensures) in
+    rw c.behind.ensures (passed_ends a.s.now a.k a.at c.requires.0 e)
 
 pub returns-in-Unknown : goal.returns-in-Unknown
 returns-in-Unknown c =
-    let start = c in
-    let a = start.args in
+    let a = c.args in
     let e = sym (ap as_standing (sym c.in-Unknown.is) ∙ c.record_at.ensures) in
-    passed_strange a.s.now a.k a.at start.requires.0 e
+    passed_strange a.s.now a.k a.at c.requires.0 e

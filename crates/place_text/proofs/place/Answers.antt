@@ -9,8 +9,6 @@ use Rattle.place_text.proofs.place.Goals as goal
 
 pub returns : goal.returns
 returns c =
-    let p = c in
-    let t = c in
-    let a = t.args in
-    let all = put_all t.put_place-len.ensures (place_fits a.file.now) in
-    record { answer = p.print.ensures.answer ∙ ap (λ (l : List ℕ). printed l a.out.now) all; after = p.print.ensures.after ∙ ap (λ (l : List ℕ). buffer_after l a.out.now) all }
+    let a = c.args in
+    let all = put_all c.put_place-len.ensures (place_fits a.file.now) in
+    record { answer = c.print.ensures.answer ∙ ap (λ (l : List ℕ). printed l a.out.now) all; after = c.print.ensures.after ∙ ap (λ (l : List ℕ). buffer_after l a.out.now) all }
