@@ -87,7 +87,10 @@ pub fn refuse(number: u8, place: usize) -> Answer
 fn width_alone(f: Fraction) -> Answer
     ensures { result ≡ only_width f }
 {
-    Answer { width: f, ..refuse(12, 0) }
+    Answer {
+        width: f,
+        ..refuse(12, 0)
+    }
 }
 
 fn percent_of(f: Fraction) -> u64
@@ -167,7 +170,11 @@ fn answer_line(b: Based, span: u64) -> Answer
     requires { Tellable b × (span ≤ 60000) }
     ensures { AnswerParts b span result }
 {
-    let Shown { number, index, thousandths } = shown_line(b, span);
+    let Shown {
+        number,
+        index,
+        thousandths,
+    } = shown_line(b, span);
     let Ruled { slope, offset } = ruled_line(b);
     Answer {
         number,
