@@ -17,7 +17,7 @@ pub struct Fraction {
 }
 
 impl Fraction {
-    // 0/1, which stands where there is no other fraction.
+    // 0/1: what stands where no other fraction does.
     pub const ZERO: Fraction = Fraction { num: 0, den: 1 };
 }
 
@@ -80,7 +80,7 @@ fn nearest(v: u64, d: u64) -> u64
     }
 }
 
-// f in thousandths of one percent. Untold are a negative fraction, one over zero, and one whose numerator times 100,000 does not fit.
+// f in thousandths of one percent. A negative fraction, one over zero, and one whose numerator times 100,000 does not fit have none.
 pub fn thousandths(f: Fraction) -> Option<u64>
     ensures { PercentDue f result }
 {
