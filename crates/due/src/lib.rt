@@ -106,11 +106,9 @@ fn shown_line(b: Based, span: u64) -> Shown
     requires { Tellable b × (span ≤ 60000) }
     ensures { ShownParts b span result }
 {
-    let a = b.a.unsigned_abs();
-    let index = exact::lowest(b.num, b.unit * (a * span));
-    let number = if a == 0 { 11 } else { 0 };
+    let index = exact::lowest(b.num, b.unit * (b.a.unsigned_abs() * span));
     Shown {
-        number,
+        number: if b.a == 0 { 11 } else { 0 },
         index,
         thousandths: percent_of(index),
     }
