@@ -7,7 +7,7 @@ ghost use Rattle.exact.specs.Value.{nought};
 ghost use Rattle.due.specs.Due.{refused, only_width};
 ghost use Rattle.due.specs.Ground.{LineParts, ShownParts, AnswerParts, Tellable, Ready, LineBy, ShownBy, AnswerBy, hidden};
 
-use exact::{Fraction, Percent};
+use exact::Fraction;
 use fit::Reach;
 
 #[derive(Clone, Copy)]
@@ -68,12 +68,6 @@ pub enum Ground {
     Refused(u8),
 }
 
-fn zero() -> Fraction
-    ensures { result ≡ nought }
-{
-    Fraction { num: 0, den: 1 }
-}
-
 // Nothing stands but the number and the place.
 pub fn refuse(number: u8, place: usize) -> Answer
     ensures { result ≡ refused number place }
@@ -81,10 +75,10 @@ pub fn refuse(number: u8, place: usize) -> Answer
     Answer {
         number,
         place,
-        width: zero(),
-        slope: zero(),
-        offset: zero(),
-        index: zero(),
+        width: Fraction::ZERO,
+        slope: Fraction::ZERO,
+        offset: Fraction::ZERO,
+        index: Fraction::ZERO,
         thousandths: 0,
     }
 }
@@ -94,13 +88,8 @@ fn width_alone(f: Fraction) -> Answer
     ensures { result ≡ only_width f }
 {
     Answer {
-        number: 12,
-        place: 0,
         width: f,
-        slope: zero(),
-        offset: zero(),
-        index: zero(),
-        thousandths: 0,
+        ..refuse(12, 0)
     }
 }
 
@@ -108,10 +97,7 @@ fn percent_of(f: Fraction) -> u64
     requires { Told f }
     ensures { Nearest (100000 * nat_abs f.num) f.den result }
 {
-    match exact::thousandths(f) {
-        Percent::Thousandths(t) => t,
-        Percent::Untold => 0,
-    }
+    exact::thousandths(f).unwrap_or(0)
 }
 
 // ---- What is shown: the one fraction that a sheet has of an index.
@@ -120,11 +106,9 @@ fn shown_line(b: Based, span: u64) -> Shown
     requires { Tellable b × (span ≤ 60000) }
     ensures { ShownParts b span result }
 {
-    let a = exact::size(b.a);
-    let index = exact::lowest(b.num, b.unit * (a * span));
-    let number = if a == 0 { 11 } else { 0 };
+    let index = exact::lowest(b.num, b.unit * (b.a.unsigned_abs() * span));
     Shown {
-        number,
+        number: if b.a == 0 { 11 } else { 0 },
         index,
         thousandths: percent_of(index),
     }
@@ -135,7 +119,7 @@ fn hide(number: u8) -> Shown
 {
     Shown {
         number,
-        index: zero(),
+        index: Fraction::ZERO,
         thousandths: 0,
     }
 }
@@ -165,8 +149,8 @@ fn no_line() -> Ruled
     ensures { result ≡ record { slope = nought; offset = nought } }
 {
     Ruled {
-        slope: zero(),
-        offset: zero(),
+        slope: Fraction::ZERO,
+        offset: Fraction::ZERO,
     }
 }
 
@@ -175,8 +159,7 @@ pub fn ruled_of(g: Ground) -> Ruled
 {
     match g {
         Ground::Line(b) => ruled_line(b),
-        Ground::Several(_) => no_line(),
-        Ground::Refused(_) => no_line(),
+        Ground::Several(_) | Ground::Refused(_) => no_line(),
     }
 }
 
@@ -185,19 +168,20 @@ fn answer_line(b: Based, span: u64) -> Answer
     requires { Tellable b × (span ≤ 60000) }
     ensures { AnswerParts b span result }
 {
-    let s = shown_line(b, span);
-    let l = ruled_line(b);
-    let slope = l.slope;
-    let offset = l.offset;
-    let index = s.index;
+    let Shown {
+        number,
+        index,
+        thousandths,
+    } = shown_line(b, span);
+    let Ruled { slope, offset } = ruled_line(b);
     Answer {
-        number: s.number,
+        number,
         place: 0,
         width: exact::lowest(b.num, b.unit * b.q),
         slope,
         offset,
         index,
-        thousandths: s.thousandths,
+        thousandths,
     }
 }
 

@@ -1,13 +1,11 @@
 -- Only one answer fits the rule of rounding, and so the public statement of `thousandths`.
-use Rattle.std.specs.Prelude.{◌≡◌, refl, ℕ, ◌+◌, ◌*◌, ◌/◌, ◌<◌, ◌≤◌}
+use Rattle.std.specs.Prelude.{◌≡◌, refl, Option, Some, None, ℕ, ◌+◌, ◌*◌, ◌/◌, ◌<◌, ◌≤◌}
 use Rattle.std.proofs.Common.{sym, ap, arith}
 use Rattle.std.proofs.Math.Nat as N
 use Rattle.std.proofs.Math.Decide.{dec_lt}
 use Rattle.exact.specs.Rounding.{distance, Nearest, PercentDue}
 use Rattle.exact.proofs.RoundingLaws.{distance_is}
 use Rattle.exact.specs.declared.Fraction.{Fraction}
-use Rattle.exact.specs.declared.Percent.{Percent}
-use Rattle.exact.specs.declared.Percent.TheVariants.{Thousandths, Untold}
 
 -- the rule of rounding, and so `nearest`: between two different even numbers that are equally near lies another, which is nearer
 pub one_nearest : {v d s t : ℕ} → Nearest v d s → Nearest v d t → s ≡ t
@@ -31,8 +29,8 @@ one_nearest {v} {d} {s} {t} a b = N.le_antisymm (not_more a b) (not_more b a)
             absurd e
 
 -- `thousandths`
-pub one_percent : (f : Fraction) (p q : Percent) → PercentDue f p → PercentDue f q → p ≡ q
-one_percent f (Thousandths s) (Thousandths t) a b = ap Thousandths (one_nearest a.1 b.1)
-one_percent f (Thousandths s) Untold a b = absurd (b a.0)
-one_percent f Untold (Thousandths t) a b = absurd (a b.0)
-one_percent f Untold Untold a b = refl
+pub one_percent : (f : Fraction) (p q : Option ℕ) → PercentDue f p → PercentDue f q → p ≡ q
+one_percent f (Some s) (Some t) a b = ap Some (one_nearest a.1 b.1)
+one_percent f (Some s) None a b = absurd (b a.0)
+one_percent f None (Some t) a b = absurd (a b.0)
+one_percent f None None a b = refl

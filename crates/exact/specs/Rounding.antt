@@ -1,9 +1,7 @@
 -- Thousandths of one percent (the paper, "Thousandths are the index in thousandths of one percent, rounded to the nearest whole"; request C-12, after GB/T 8170: a half goes to the even neighbour). Definitions only.
-use Rattle.std.specs.Prelude.{◌≡◌, ℕ, ◌*◌, ◌<◌, ◌≤◌, pos, nat_abs, ◌-ℤ◌, ◌≤ℤ◌}
+use Rattle.std.specs.Prelude.{◌≡◌, Option, Some, None, ℕ, ◌*◌, ◌<◌, ◌≤◌, pos, nat_abs, ◌-ℤ◌, ◌≤ℤ◌}
 use Rattle.std.specs.Int.{◌∣◌}
 use Rattle.exact.specs.declared.Fraction.{Fraction}
-use Rattle.exact.specs.declared.Percent.{Percent}
-use Rattle.exact.specs.declared.Percent.TheVariants.{Thousandths, Untold}
 
 -- how far the whole number t lies from v/d, times d
 abbrev pub distance : (v d t : ℕ) → ℕ
@@ -26,6 +24,6 @@ pub record Told (f : Fraction) : Type 0 where
   pub den : 0 < f.den
 
 -- the answer that is due for f. One percent has 1,000 thousandths, so n/d is 100,000·n/d of them
-abbrev pub PercentDue : Fraction → Percent → Type 0
-PercentDue f (Thousandths t) = Told f × Nearest (100000 * nat_abs f.num) f.den t
-PercentDue f Untold = Told f → ⊥
+abbrev pub PercentDue : Fraction → Option ℕ → Type 0
+PercentDue f (Some t) = Told f × Nearest (100000 * nat_abs f.num) f.den t
+PercentDue f None = Told f → ⊥

@@ -7,6 +7,8 @@ ghost use Rattle.exact.specs.Value.{Made, NoLarger};
 ghost use Rattle.exact.specs.Rounding.{Nearest, PercentDue};
 ghost use Rattle.exact.specs.Terms.{signed};
 
+use std::cmp::Ordering;
+
 // A numerator with a sign over a positive denominator.
 #[derive(Clone, Copy)]
 pub struct Fraction {
@@ -14,17 +16,13 @@ pub struct Fraction {
     pub den: u64,
 }
 
-// A part of a whole in thousandths of one percent, where it is told.
-#[derive(Clone, Copy)]
-pub enum Percent {
-    Thousandths(u64),
-    Untold,
+impl Fraction {
+    // 0/1: what stands where no other fraction does.
+    pub const ZERO: Fraction = Fraction { num: 0, den: 1 };
 }
 
-// The largest numerator whose 100,000-fold fits a u64.
-const LARGEST: u64 = 184467440737095;
-
 // The greatest common divisor, by Euclid's rule: the remainder falls each time. Of 0 and 0 it is 0.
+#[tactic(auto, using(crate::specs::Euclid::gcd_step))]
 pub fn divisor(a: u64, b: u64) -> u64
     ensures { Gcd a b result }
 {
@@ -35,11 +33,7 @@ pub fn divisor(a: u64, b: u64) -> u64
 pub fn size(a: i64) -> u64
     ensures { result ≡ nat_abs a }
 {
-    if a < 0 {
-        ((-1 - a) as u64) + 1
-    } else {
-        a as u64
-    }
+    a.unsigned_abs()
 }
 
 // m with the sign of a.
@@ -48,25 +42,25 @@ fn with_sign(a: i64, m: u64) -> i64
     ensures { result ≡ signed a m }
 {
     if a < 0 {
-        if m == 0 { 0 } else { -1 - ((m - 1) as i64) }
+        0_i64.strict_sub_unsigned(m)
     } else {
         m as i64
     }
 }
 
 // num/den in lowest terms; 0/1 where den is zero. No other function reduces a fraction.
+#[tactic(auto, using(crate::specs::Euclid::gcd_positive))]
 pub fn lowest(num: i64, den: u64) -> Fraction
     ensures made { Made num den result }
     ensures small { NoLarger num den result }
 {
     if den == 0 {
-        return Fraction { num: 0, den: 1 };
+        return Fraction::ZERO;
     }
-    let n = size(num);
+    let n = num.unsigned_abs();
     let g = divisor(n, den);
-    let s = with_sign(num, n / g);
     Fraction {
-        num: s,
+        num: with_sign(num, n / g),
         den: den / g,
     }
 }
@@ -79,29 +73,18 @@ fn nearest(v: u64, d: u64) -> u64
     let whole = v / d;
     let rest = v % d;
     let lacks = d - rest;
-    if rest < lacks {
-        return whole;
+    match rest.cmp(&lacks) {
+        Ordering::Less => whole,
+        Ordering::Greater => whole + 1,
+        Ordering::Equal => whole + whole % 2,
     }
-    if lacks < rest {
-        return whole + 1;
-    }
-    whole + whole % 2
 }
 
-// f in thousandths of one percent. Untold are a negative fraction, one over zero, and one whose numerator times 100,000 does not fit.
-pub fn thousandths(f: Fraction) -> Percent
+// f in thousandths of one percent. A negative fraction, one over zero, and one whose numerator times 100,000 does not fit have none.
+pub fn thousandths(f: Fraction) -> Option<u64>
     ensures { PercentDue f result }
 {
-    if f.num < 0 {
-        return Percent::Untold;
-    }
-    let n = size(f.num);
-    if LARGEST < n {
-        return Percent::Untold;
-    }
-    let d = f.den;
-    if d == 0 {
-        return Percent::Untold;
-    }
-    Percent::Thousandths(nearest(100000 * n, d))
+    let n = u64::try_from(f.num).ok()?;
+    let v = n.checked_mul(100000)?;
+    (f.den != 0).then(|| nearest(v, f.den))
 }

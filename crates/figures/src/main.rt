@@ -4,16 +4,15 @@
 // For each a line is printed: the fraction in lowest terms, a space, and its thousandths of one percent, or `untold`.
 #![tactic(auto)]
 
-use exact::Percent;
 use trial::{Next, Page};
 
 // More records than this are not read: a loop has to end.
 const MOST: u32 = 1000000;
 
-fn put_percent(page: &mut Page, at: &mut usize, p: Percent) {
+fn put_percent(page: &mut Page, at: &mut usize, p: Option<u64>) {
     match p {
-        Percent::Thousandths(t) => trial::put_count(page, at, t),
-        Percent::Untold => trial::put_bytes(page, at, b"untold"),
+        Some(t) => trial::put_count(page, at, t),
+        None => trial::put_bytes(page, at, b"untold"),
     }
 }
 

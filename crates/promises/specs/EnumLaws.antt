@@ -1,13 +1,12 @@
 -- What the functions answer of the points of a run is what stands under its index: `SameAnswers` holds of every run that no check refuses.
 use Rattle.std.specs.Prelude.{◌≡◌, refl, cond, List, map, ℕ, ◌*◌, ◌<◌, ◌≤◌, T, ltb, ℤ, pos, nat_abs, get_or}
 use Rattle.std.proofs.Common.{sym, ap, ◌∙◌, subst, arith, lt-ltb, le-ltb}
+use Rattle.std.specs.Prelude as std
 use Rattle.std.proofs.Math.Option.{some}
 use Rattle.whole.specs.Flags.{cond_yes, cond_no}
 use Rattle.exact.specs.Rounding.{Nearest, Told, PercentDue}
 use Rattle.exact.proofs.RoundingLaws.{some_nearest}
 use Rattle.exact.proofs.RoundingOnce.{one_percent}
-use Rattle.exact.specs.declared.Percent.{Percent}
-use Rattle.exact.specs.declared.Percent.TheVariants.{Thousandths}
 use Rattle.run.specs.Checks.{verdict}
 use Rattle.run.specs.Checked.{Checked, checked}
 use Rattle.run.specs.Places.{rising}
@@ -36,7 +35,7 @@ use Rattle.due.specs.GroundLaws.{plainly, cycles_two}
 use Rattle.due.specs.declared.Answer.{Answer}
 use Rattle.due.specs.declared.Index.{Index}
 use Rattle.due.specs.declared.Index.TheVariants as index
-use Rattle.promises.specs.Enums.{lined, as_lined, as_thousandths, Eleven, Arrays, SameAnswers}
+use Rattle.promises.specs.Enums.{lined, as_lined, Eleven, Arrays, SameAnswers}
 use Rattle.promises.specs.DrawnLaws.{line_is, width_is}
 
 -- what stands under an index is what d is in the paper's table
@@ -170,8 +169,8 @@ rounded (one_cycle _ _ _ _ e) = subst Rounded (sym e) nought_nearest
 rounded (given _ _ _ _ (several _ _ _ _ _ e)) = subst Rounded (sym e) nought_nearest
 rounded (given _ _ _ _ (one_line _ _ _ _ _ _ s)) = s.thousandths
 
-thousandths : (which : Index) (r : Run) (a : Answer) → Due which r a → (p : Percent) → PercentDue a.index p → Told a.index → as_thousandths p ≡ some a.thousandths
-thousandths which r a due p d t = ap as_thousandths (one_percent a.index p (Thousandths a.thousandths) d (t, rounded (due_case due)))
+thousandths : (which : Index) (r : Run) (a : Answer) → Due which r a → (p : std.Option ℕ) → PercentDue a.index p → Told a.index → p ≡ std.Some a.thousandths
+thousandths which r a due p d t = one_percent a.index p (std.Some a.thousandths) d (t, rounded (due_case due))
 
 -- ---- together
 pub same_answers : (r : Run) → (verdict r).number ≡ 0 → SameAnswers r

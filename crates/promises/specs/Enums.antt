@@ -1,13 +1,12 @@
 -- What each case of an answer that is an enum is in the paper's table ("What can be answered"), and that it is the answer an index of a run gets. The statement; `EnumLaws` proves it.
--- `fit` and `pin` answer a line of any points with `Drawn`, and `exact` a part in thousandths of one percent with `Percent`.
+-- `fit` and `pin` answer a line of any points with `Drawn`, and `exact` a part in thousandths of one percent with an `Option`.
 -- `fit` and `pin` are lent arrays of 11 numbers. What stands there beyond the last input is theirs and not the run's, so the points of the arrays are those of the run only within. `SameAnswers` takes any points that are the same within, and says that some arrays have such points.
 use Rattle.std.specs.Prelude.{◌≡◌, cond, List, ℕ, ◌<◌, ◌≤◌, eqb, ℤ, pos, nat_abs, length, get_or}
+use Rattle.std.specs.Prelude as std
 use Rattle.std.proofs.Math.Option.{Option, none, some}
 use Rattle.exact.specs.Value.{nought}
 use Rattle.exact.specs.Rounding.{Told, PercentDue}
 use Rattle.exact.specs.declared.Fraction.{Fraction}
-use Rattle.exact.specs.declared.Percent.{Percent}
-use Rattle.exact.specs.declared.Percent.TheVariants.{Thousandths, Untold}
 use Rattle.run.specs.declared.Run.{Run}
 use Rattle.groups.specs.Cut.{LimitsOf}
 use Rattle.band.specs.Line.{Points}
@@ -41,12 +40,6 @@ as_lined (drawn.Line f) = some (record { number = cond (eqb (nat_abs f.slope.num
 as_lined (drawn.Several h) = some (record { number = 12; width = h.width; slope = nought; offset = nought })
 as_lined drawn.Improper = none
 
--- ---- a part in thousandths of one percent
--- `Untold` has no value: the fraction is negative, over zero, or too large to be told
-abbrev pub as_thousandths : Percent → Option ℕ
-as_thousandths (Thousandths t) = some t
-as_thousandths Untold = none
-
 -- ---- the arrays
 -- 11 numbers, of which all behind the first m are zero
 abbrev pub Eleven : ℕ → List ℤ → Type 0
@@ -68,8 +61,8 @@ pub record SameAnswers (r : Run) : Type 0 where
   pub front : (P : Points) → SamePoints P (means r) → (d : Drawn) → FrontDue P d → (a : Answer) → Due index.Front r a → as_lined d ≡ some (lined a)
   pub lh : (P : Points) → SamePoints P (stroke_points r) → (d : Drawn) → BestDue P d → (a : Answer) → Due index.Lh r a → ¬ (a.number ≡ 16) → as_lined d ≡ some (lined a)
   pub lhr : (k : ℕ → ℕ → ℕ) → LimitsOf r k → (P : Points) → SamePoints P (limit_points r k) → (d : Drawn) → BestDue P d → (a : Answer) → Due index.Lhr r a → ¬ (a.number ≡ 16) → ¬ (a.number ≡ 13) → as_lined d ≡ some (lined a)
-  -- that the index may be told is what `index_of` of `indices` promises beside `Due`
-  pub thousandths : (which : Index) (a : Answer) → Due which r a → (p : Percent) → PercentDue a.index p → Told a.index → as_thousandths p ≡ some a.thousandths
+  -- `None` has no value: the fraction is negative, over zero, or too large to be told. That the index may be told is what `index_of` of `indices` promises beside `Due`
+  pub thousandths : (which : Index) (a : Answer) → Due which r a → (p : std.Option ℕ) → PercentDue a.index p → Told a.index → p ≡ std.Some a.thousandths
   -- some arrays have these points, so that none of this is said of nothing, but for `lh` and `lhr` of a run with an up stroke only, which 16 refuses. The means are one array, lent twice
   pub lent_means : (x : List ℤ) × ((t : List ℤ) × Arrays (means r) x t t)
   pub lent_strokes : (x : List ℤ) × ((low : List ℤ) × ((high : List ℤ) × Arrays (stroke_points r) x low high))
