@@ -57,7 +57,7 @@ fn answer_kind(page: &mut Page, kind: u64) -> Option<()> {
     if 2048 < room {
         return None;
     }
-    let mut out = trial::background();
+    let mut out: [u8; 2048] = trial::background();
     answer_into(page, kind, &mut out[..room as usize])
 }
 

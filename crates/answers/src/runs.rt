@@ -26,7 +26,10 @@ fn put_answer(page: &mut Page, name: &str, a: Answer) {
     page.put_bytes(name.as_bytes());
     page.put_number(a.number as u64);
     page.put_number(a.place as u64);
-    page.put_each(&[a.width, a.slope, a.offset, a.index], |page, f| page.put_fraction(*f));
+    page.put_each(
+        &[a.width, a.slope, a.offset, a.index],
+        |page, f| page.put_fraction(*f),
+    );
     page.put_number(a.thousandths);
     page.put_line_end();
 }

@@ -36,7 +36,7 @@ fn answer_run(file: &[u8], kind: u64, out: &mut [u8]) {
 }
 
 fn put_refusal(page: &mut Page, text: &[u8], number: u8, line: usize) {
-    let mut out = [170; 120];
+    let mut out: [u8; 120] = trial::background();
     let detail = text_detail::of_text(text);
     let q = sentences::refusal(number, line, detail, &mut out);
     put_printed(page, b"refusal", q, &out);
@@ -58,7 +58,7 @@ fn answer_text(text: &[u8], out: &mut [u8]) {
 
 fn answer_file(kind: u64, room: usize, len: usize) {
     let mut b = [0; 4096];
-    let mut out = [170; 8448];
+    let mut out: [u8; 8448] = trial::background();
     if len <= b.len() {
         let file = streams::read(&mut b[..len]);
         if room <= out.len() {
@@ -69,7 +69,7 @@ fn answer_file(kind: u64, room: usize, len: usize) {
 
 fn answer_typed(room: usize, len: usize) {
     let mut b = [0; 65600];
-    let mut out = trial::background();
+    let mut out: [u8; 2048] = trial::background();
     if len <= b.len() {
         let text = streams::read(&mut b[..len]);
         if room <= out.len() {

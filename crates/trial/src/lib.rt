@@ -42,8 +42,8 @@ pub fn next_numbers<T, const N: usize, F: Fn(i64) -> T>(of: F) -> [T; N]
 }
 
 // What a buffer holds before a write. The contract gives only the length, which lending a part of it needs.
-pub fn background() -> [u8; 2048]
-    ensures { 2048 ≡ length result }
+pub fn background<const N: usize>() -> [u8; N]
+    ensures { N ≡ length result }
 {
-    [170; 2048]
+    [170; N]
 }
