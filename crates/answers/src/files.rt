@@ -1,95 +1,65 @@
 // What the reader, the writer and the sheet give, put on a page.
 use run::Run;
 use trial::Page;
-use units::{Input, Reading};
 
-pub fn put_pair(page: &mut Page, at: &mut usize, a: u64, b: u64) {
-    trial::put_space(page, at);
-    trial::put_count(page, at, a);
-    trial::put_space(page, at);
-    trial::put_count(page, at, b);
+fn put_run(page: &mut Page, r: &Run) {
+    page.put_bytes(b"run");
+    page.put_number(r.m as u64);
+    page.put_number(r.n as u64);
+    page.put_number(r.strokes as u64);
+    page.put_bytes(b"\nx");
+    page.put_each(&r.x, |page, v| page.put_signed(v.count));
+    page.put_bytes(b"\ny");
+    page.put_each(&r.y, |page, v| page.put_signed(v.count));
+    page.put_line_end();
 }
 
-fn put_inputs(page: &mut Page, at: &mut usize, x: [Input; 11]) {
-    let mut i = 0;
-    while i < 11 {
-        let v = x[i];
-        trial::put_space(page, at);
-        trial::put_signed(page, at, v.count);
-        i += 1;
-    }
+pub fn put_write(page: &mut Page, r: &Run, out: &mut [u8]) {
+    let w = writer::write(*r, out);
+    page.put_bytes(b"write");
+    page.put_number(w.number as u64);
+    page.put_number(w.place as u64);
+    page.put_number(w.len as u64);
+    page.put_line_end();
+    page.put_hex(out);
 }
 
-fn put_readings(page: &mut Page, at: &mut usize, y: [Reading; 220]) {
-    let mut i = 0;
-    while i < 220 {
-        let v = y[i];
-        trial::put_space(page, at);
-        trial::put_signed(page, at, v.count);
-        i += 1;
-    }
-}
-
-fn put_run(page: &mut Page, at: &mut usize, r: Run) {
-    trial::put_bytes(page, at, b"run");
-    put_pair(page, at, r.m as u64, r.n as u64);
-    trial::put_space(page, at);
-    trial::put_count(page, at, r.strokes as u64);
-    let x = r.x;
-    trial::put_bytes(page, at, b"\nx");
-    put_inputs(page, at, x);
-    let y = r.y;
-    trial::put_bytes(page, at, b"\ny");
-    put_readings(page, at, y);
-    trial::put_line_end(page, at);
-}
-
-pub fn put_write(page: &mut Page, at: &mut usize, r: Run, out: &mut [u8]) {
-    let w = writer::write(r, out);
-    trial::put_bytes(page, at, b"write");
-    put_pair(page, at, w.number as u64, w.place as u64);
-    trial::put_space(page, at);
-    trial::put_count(page, at, w.len as u64);
-    trial::put_line_end(page, at);
-    trial::put_hex(page, at, out);
-}
-
-fn put_read(page: &mut Page, at: &mut usize, s: &[u8], out: &mut [u8]) {
+fn put_read(page: &mut Page, s: &[u8], out: &mut [u8]) {
     let a = reader::read(s);
-    trial::put_bytes(page, at, b"read");
-    put_pair(page, at, a.number as u64, a.place as u64);
-    trial::put_line_end(page, at);
-    let r = a.run;
-    put_run(page, at, r);
+    page.put_bytes(b"read");
+    page.put_number(a.number as u64);
+    page.put_number(a.place as u64);
+    page.put_line_end();
+    put_run(page, &a.run);
     if a.number == 0 {
-        put_write(page, at, r, out);
+        put_write(page, &a.run, out);
     }
 }
 
-fn put_sheet(page: &mut Page, at: &mut usize, s: &[u8], out: &mut [u8]) {
+fn put_sheet(page: &mut Page, s: &[u8], out: &mut [u8]) {
     let q = sheet_text::sheet(s, out);
-    trial::put_bytes(page, at, b"sheet");
-    put_pair(page, at, q.number as u64, q.len as u64);
-    trial::put_line_end(page, at);
-    trial::put_hex(page, at, out);
+    page.put_bytes(b"sheet");
+    page.put_number(q.number as u64);
+    page.put_number(q.len as u64);
+    page.put_line_end();
+    page.put_hex(out);
 }
 
-fn put_close(page: &mut Page, at: &mut usize, s: &[u8]) {
+fn put_close(page: &mut Page, s: &[u8]) {
     let a = reader::read_to_close(s);
-    trial::put_bytes(page, at, b"close");
-    put_pair(page, at, a.number as u64, a.place as u64);
-    trial::put_space(page, at);
-    trial::put_count(page, at, a.end as u64);
-    trial::put_line_end(page, at);
-    let r = a.run;
-    put_run(page, at, r);
+    page.put_bytes(b"close");
+    page.put_number(a.number as u64);
+    page.put_number(a.place as u64);
+    page.put_number(a.end as u64);
+    page.put_line_end();
+    put_run(page, &a.run);
 }
 
 // The reader's answer where the kind is 0, the sheet where it is 2, else the answer up to the close.
-pub fn put_file(page: &mut Page, at: &mut usize, kind: u64, s: &[u8], out: &mut [u8]) {
+pub fn put_file(page: &mut Page, kind: u64, s: &[u8], out: &mut [u8]) {
     match kind {
-        0 => put_read(page, at, s, out),
-        2 => put_sheet(page, at, s, out),
-        _ => put_close(page, at, s),
+        0 => put_read(page, s, out),
+        2 => put_sheet(page, s, out),
+        _ => put_close(page, s),
     }
 }

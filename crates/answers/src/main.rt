@@ -13,84 +13,63 @@ mod files;
 mod runs;
 
 use run::Run;
-use trial::{Next, Page};
-
-// The numbers under which a process has its standard streams.
-const STDIN_FILENO: i32 = 0;
-
-// More requests than this are not read: a loop has to end.
-const MOST: u32 = 1000000;
+use trial::Page;
+use units::{Input, Reading};
 
 fn next_run() -> Run {
-    let m = trial::next_or_zero() as usize;
-    let n = trial::next_or_zero() as usize;
-    let strokes = trial::next_or_zero() as usize;
-    let x = trial::next_inputs();
-    let y = trial::next_readings();
     Run {
-        m,
-        n,
-        strokes,
-        x,
-        y,
+        m: trial::next_or_zero() as usize,
+        n: trial::next_or_zero() as usize,
+        strokes: trial::next_or_zero() as usize,
+        x: trial::next_numbers(|count| Input { count }),
+        y: trial::next_numbers(|count| Reading { count }),
     }
 }
 
-fn answer_file(page: &mut Page, at: &mut usize, kind: u64, out: &mut [u8]) -> bool {
+fn answer_file(page: &mut Page, kind: u64, out: &mut [u8]) -> Option<()> {
     let len = trial::next_or_zero();
     if 4096 < len {
-        return false;
+        return None;
     }
-    let mut b = io::buffer();
-    let n = io::read_full(STDIN_FILENO, &mut b[..len as usize]);
-    if n <= 4096 {
-        files::put_file(page, at, kind, &b[..n], out);
-    }
-    true
+    let mut b = [0; 4096];
+    let file = streams::read(&mut b[..len as usize]);
+    files::put_file(page, kind, file, out);
+    Some(())
 }
 
-fn answer_into(page: &mut Page, at: &mut usize, kind: u64, out: &mut [u8]) -> bool {
+fn answer_into(page: &mut Page, kind: u64, out: &mut [u8]) -> Option<()> {
     match kind {
-        0 | 2 | 4 => answer_file(page, at, kind, out),
+        0 | 2 | 4 => answer_file(page, kind, out),
         1 => {
-            files::put_write(page, at, next_run(), out);
-            true
+            files::put_write(page, &next_run(), out);
+            Some(())
         }
-        _ => false,
+        _ => None,
     }
 }
 
-fn answer_kind(page: &mut Page, at: &mut usize, kind: u64) -> bool {
+fn answer_kind(page: &mut Page, kind: u64) -> Option<()> {
     let room = trial::next_or_zero();
     if kind == 3 {
-        runs::put_figures(page, at, next_run());
-        return true;
+        runs::put_figures(page, &next_run());
+        return Some(());
     }
     if 2048 < room {
-        return false;
+        return None;
     }
-    let mut out = trial::background();
-    answer_into(page, at, kind, &mut out[..room as usize])
+    let mut out: [u8; 2048] = trial::background();
+    answer_into(page, kind, &mut out[..room as usize])
 }
 
-// Answers one request; false where none is left, and where one is beyond its limits.
-fn answer() -> bool {
-    let Next::Word(kind) = trial::read_word() else {
-        return false;
-    };
-    let mut page = trial::empty_page();
-    let mut at = 0;
-    let more = answer_kind(&mut page, &mut at, kind);
-    trial::print_page(&page, at);
-    more
+// Answers one request; None where none is left, and where one is beyond its limits, of which nothing is printed.
+fn answer() -> Option<()> {
+    let kind = trial::read_word()?;
+    let mut page = Page::new();
+    answer_kind(&mut page, kind)?;
+    page.print();
+    Some(())
 }
 
 fn main() {
-    let mut left = MOST;
-    while 0 < left {
-        if !answer() {
-            return;
-        }
-        left -= 1;
-    }
+    trial::answer_each(answer);
 }

@@ -7,115 +7,80 @@
 // Of each answer the numbers are printed on a line, then the whole buffer, then a line feed.
 #![tactic(auto)]
 
-use trial::{Next, Page};
+use plain::Printed;
+use trial::Page;
 
-// The numbers under which a process has its standard streams.
-const STDIN_FILENO: i32 = 0;
-
-// More requests than this are not read: a loop has to end.
-const MOST: u32 = 1000000;
-
-fn put_buffer(page: &mut Page, at: &mut usize, out: &[u8]) {
-    trial::put_line_end(page, at);
-    trial::put_bytes(page, at, out);
-    trial::put_line_end(page, at);
+fn put_buffer(page: &mut Page, out: &[u8]) {
+    page.put_line_end();
+    page.put_bytes(out);
+    page.put_line_end();
 }
 
-fn put_number(page: &mut Page, at: &mut usize, n: u64) {
-    trial::put_space(page, at);
-    trial::put_count(page, at, n);
+fn put_printed(page: &mut Page, name: &[u8], q: Printed, out: &[u8]) {
+    page.put_bytes(name);
+    page.put_number(q.number as u64);
+    page.put_number(q.len as u64);
+    put_buffer(page, out);
 }
 
-fn print_listing(file: &[u8], out: &mut [u8]) {
-    let mut page = trial::empty_page();
-    let mut at = 0;
-    let q = listing_text::list(file, out);
-    trial::put_bytes(&mut page, &mut at, b"listing");
-    put_number(&mut page, &mut at, q.number as u64);
-    put_number(&mut page, &mut at, q.len as u64);
-    put_buffer(&mut page, &mut at, out);
-    trial::print_page(&page, at);
-}
-
-fn print_place(file: &[u8], out: &mut [u8]) {
-    let mut page = trial::empty_page();
-    let mut at = 0;
-    let q = place_text::place(file, out);
-    trial::put_bytes(&mut page, &mut at, b"place");
-    put_number(&mut page, &mut at, q.number as u64);
-    put_number(&mut page, &mut at, q.len as u64);
-    put_buffer(&mut page, &mut at, out);
-    trial::print_page(&page, at);
-}
-
-fn answer_run(file: &[u8], kind: u64, room: usize) {
-    let mut out = [170u8; 8448];
-    if room <= 8448 {
-        if kind == 0 {
-            print_listing(file, &mut out[..room]);
-        } else {
-            print_place(file, &mut out[..room]);
-        }
+fn answer_run(file: &[u8], kind: u64, out: &mut [u8]) {
+    let mut page = Page::new();
+    if kind == 0 {
+        let q = listing_text::list(file, out);
+        put_printed(&mut page, b"listing", q, out);
+    } else {
+        let q = place_text::place(file, out);
+        put_printed(&mut page, b"place", q, out);
     }
+    page.print();
 }
 
-fn put_refusal(page: &mut Page, at: &mut usize, text: &[u8], number: u8, line: usize) {
-    let mut out = [170u8; 120];
-    let d = text_detail::of_text(text);
-    let q = sentences::refusal(number, line, d, &mut out);
-    trial::put_bytes(page, at, b"refusal");
-    put_number(page, at, q.number as u64);
-    put_number(page, at, q.len as u64);
-    put_buffer(page, at, &out);
+fn put_refusal(page: &mut Page, text: &[u8], number: u8, line: usize) {
+    let mut out: [u8; 120] = trial::background();
+    let detail = text_detail::of_text(text);
+    let q = sentences::refusal(number, line, detail, &mut out);
+    put_printed(page, b"refusal", q, &out);
 }
 
-fn print_typed(text: &[u8], out: &mut [u8]) {
-    let mut page = trial::empty_page();
-    let mut at = 0;
+fn answer_text(text: &[u8], out: &mut [u8]) {
+    let mut page = Page::new();
     let q = typed_text::run_file(text, out);
-    trial::put_bytes(&mut page, &mut at, b"typed");
-    put_number(&mut page, &mut at, q.number as u64);
-    put_number(&mut page, &mut at, q.line as u64);
-    put_number(&mut page, &mut at, q.len as u64);
-    put_buffer(&mut page, &mut at, out);
+    page.put_bytes(b"typed");
+    page.put_number(q.number as u64);
+    page.put_number(q.line as u64);
+    page.put_number(q.len as u64);
+    put_buffer(&mut page, out);
     if q.number != 0 {
-        put_refusal(&mut page, &mut at, text, q.number, q.line);
+        put_refusal(&mut page, text, q.number, q.line);
     }
-    trial::print_page(&page, at);
-}
-
-fn answer_text(text: &[u8], room: usize) {
-    let mut out = trial::background();
-    if room <= 2048 {
-        print_typed(text, &mut out[..room]);
-    }
+    page.print();
 }
 
 fn answer_file(kind: u64, room: usize, len: usize) {
-    let mut b = [0u8; 4096];
-    if len <= 4096 {
-        let n = io::read_full(STDIN_FILENO, &mut b[..len]);
-        if n <= 4096 {
-            answer_run(&b[..n], kind, room);
+    let mut b = [0; 4096];
+    let mut out: [u8; 8448] = trial::background();
+    if len <= b.len() {
+        let file = streams::read(&mut b[..len]);
+        if room <= out.len() {
+            answer_run(file, kind, &mut out[..room]);
         }
     }
 }
 
 fn answer_typed(room: usize, len: usize) {
-    let mut b = [0u8; 65600];
-    if len <= 65600 {
-        let n = io::read_full(STDIN_FILENO, &mut b[..len]);
-        if n <= 65600 {
-            answer_text(&b[..n], room);
+    let mut b = [0; 65600];
+    let mut out: [u8; 2048] = trial::background();
+    if len <= b.len() {
+        let text = streams::read(&mut b[..len]);
+        if room <= out.len() {
+            answer_text(text, &mut out[..room]);
         }
     }
 }
 
-// Answers one request; false where none is left.
-fn answer() -> bool {
-    let Next::Word(kind) = trial::read_word() else {
-        return false;
-    };
+// Answers one request; None where none is left.
+fn answer() -> Option<()> {
+    let kind = trial::read_word()?;
     let room = trial::next_or_zero() as usize;
     let len = trial::next_or_zero() as usize;
     if kind == 1 {
@@ -123,15 +88,9 @@ fn answer() -> bool {
     } else {
         answer_file(kind, room, len);
     }
-    true
+    Some(())
 }
 
 fn main() {
-    let mut left = MOST;
-    while 0 < left {
-        if !answer() {
-            return;
-        }
-        left -= 1;
-    }
+    trial::answer_each(answer);
 }

@@ -1,5 +1,0 @@
--- `answers::main` ends: the count of requests left falls.
-use Rattle.answers.proofs.main.Given as goal
-
-abbrev pub decreases-loop-left : goal.decreases-loop-left
-decreases-loop-left l = l.left
