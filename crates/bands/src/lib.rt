@@ -26,7 +26,7 @@ impl Width {
     {
         match self {
             Width::Swing => units::distance(b, a),
-            Width::Scatter => units::larger(a, b),
+            Width::Scatter => a.max(b),
         }
     }
 }
@@ -57,8 +57,8 @@ fn values_of(up: Sum, down: Sum, up_limit: Sum, down_limit: Sum) -> Values
     let a = units::minus(up, up_limit);
     let b = units::plus(down, down_limit);
     Values {
-        low: units::part_of(units::lesser(a, b)),
-        high: units::part_of(units::larger(a, b)),
+        low: Part::from(a.min(b)),
+        high: Part::from(a.max(b)),
     }
 }
 
@@ -96,7 +96,7 @@ pub fn widest(w: Width, m: usize, up: &[i64; 11], down: &[i64; 11]) -> Sum
 {
     let mut s = w.of(sum_at(up, 0), sum_at(down, 0));
     for i in 1..m {
-        s = units::larger(s, w.of(sum_at(up, i), sum_at(down, i)));
+        s = s.max(w.of(sum_at(up, i), sum_at(down, i)));
     }
     s
 }

@@ -118,7 +118,7 @@ pub fn independent(z: Sizes, x: &[i64; 11], y: &[i64; 220], line: Plotted) -> Gr
 fn has_negative(x: &[i64; 11]) -> bool
     ensures { result ≡ lt_z (get_or x.now 0 (pos 0)) (pos 0) }
 {
-    units::is_below(input_at(x, 0), Input { count: 0 })
+    input_at(x, 0) < Input { count: 0 }
 }
 
 // Through the origin, where no input is negative.

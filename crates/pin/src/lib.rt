@@ -15,7 +15,7 @@ ghost use Rattle.pin.specs.Search.{most_num, most_den, Ready, Start, ordered, Pa
 
 use band::is_drawn;
 use fit::{Course, Drawn, Plotted, complete, lay, only};
-use units::{Input, Part, gap, input_at, is_below, part_at, rise, times};
+use units::{Input, Part, gap, input_at, part_at, rise, times};
 
 // The fixed point: the value v at the input x.
 #[derive(Clone, Copy)]
@@ -148,7 +148,7 @@ fn start_of(m: usize, d: u64, x: &[i64; 11], low: &[i64; 11], high: &[i64; 11], 
     requires { Ready (lent m d x.now low.now high.now) p × Beyond (lent m d x.now low.now high.now) p.x.count }
     ensures { Start (lent m d x.now low.now high.now) p.x.count result }
 {
-    if is_below(p.x, input_at(x, 0)) { 0 } else { 1 }
+    if p.x < input_at(x, 0) { 0 } else { 1 }
 }
 
 // The pair that keeps the lines furthest off, where n is the first input beyond the fixed point. An input with itself keeps none off, so that the search may start from the last one.
@@ -259,7 +259,7 @@ pub fn zero_of(m: usize, d: u64, x: &[i64; 11], low: &[i64; 11], high: &[i64; 11
 pub fn zero(m: usize, d: u64, x: &[i64; 11], low: &[i64; 11], high: &[i64; 11]) -> Drawn
     ensures { ZeroDue (lent m d x.now low.now high.now) result }
 {
-    if !is_drawn(m, d, x, low, high) || is_below(input_at(x, 0), Input { count: 0 }) {
+    if !is_drawn(m, d, x, low, high) || input_at(x, 0) < (Input { count: 0 }) {
         return Drawn::Improper;
     }
     complete(zero_of(m, d, x, low, high))

@@ -3,8 +3,6 @@
 #![tactic(auto)]
 
 ghost use Rattle.std.specs.Prelude.{◌∷◌, [], ◌≡◌, ◌<◌, ◌≤◌, pos, nat_abs, ◌+ℤ◌, ◌-ℤ◌, ◌*ℤ◌, ◌≤ℤ◌};
-ghost use Rattle.std.specs.Int.Signed.{lt_z};
-ghost use Rattle.whole.specs.Greater.{smaller, greater};
 ghost use Rattle.whole.specs.Machine.{Bounds};
 ghost use Rattle.units.specs.Units.{most_x, most_y, most_difference, most_difference_sum, most_square_sum, most_s, most_v, input_in, reading_in, sum_in, part_in};
 
@@ -74,23 +72,13 @@ pub fn part_at(parts: &[i64; 11], i: usize) -> Part
 }
 
 // ---- inputs
-pub fn is_below(a: Input, b: Input) -> bool
-    ensures { result ≡ lt_z a.count b.count }
-{
-    let p = a.count;
-    let q = b.count;
-    p < q
-}
-
 // How far b lies beyond a, in input units.
 pub fn gap(a: Input, b: Input) -> i64
     requires { Bounds (a.count ∷ b.count ∷ []) (most_x ∷ most_x ∷ []) }
     ensures value { result ≡ b.count -ℤ a.count }
     ensures small { nat_abs result ≤ 60000 }
 {
-    let p = a.count;
-    let q = b.count;
-    q - p
+    b.count - a.count
 }
 
 // ---- readings
@@ -100,51 +88,35 @@ pub fn excess(a: Reading, b: Reading) -> i64
     ensures value { result ≡ a.count -ℤ b.count }
     ensures small { nat_abs result ≤ 2000000 }
 {
-    let p = a.count;
-    let q = b.count;
-    p - q
-}
-
-pub fn lower(a: Reading, b: Reading) -> Reading
-    ensures { result.count ≡ smaller a.count b.count }
-{
-    let p = a.count;
-    let q = b.count;
-    if p < q { a } else { b }
-}
-
-pub fn higher(a: Reading, b: Reading) -> Reading
-    ensures { result.count ≡ greater a.count b.count }
-{
-    let p = a.count;
-    let q = b.count;
-    if p < q { b } else { a }
+    a.count - b.count
 }
 
 // ---- sums
 // A reading's nth part: in sum units it has the reading's own count.
-pub fn share(v: Reading) -> Sum
-    ensures { result.count ≡ v.count }
-{
-    Sum { count: v.count }
+impl From<Reading> for Sum {
+    ghost from_gives = { λ v s. s.count ≡ v.count };
+
+    fn from(v: Reading) -> Sum {
+        Sum { count: v.count }
+    }
 }
 
 pub fn plus(a: Sum, b: Sum) -> Sum
     requires { Bounds (a.count ∷ b.count ∷ []) (most_s ∷ most_s ∷ []) }
     ensures { result.count ≡ a.count +ℤ b.count }
 {
-    let p = a.count;
-    let q = b.count;
-    Sum { count: p + q }
+    Sum {
+        count: a.count + b.count,
+    }
 }
 
 pub fn minus(a: Sum, b: Sum) -> Sum
     requires { Bounds (a.count ∷ b.count ∷ []) (most_s ∷ most_s ∷ []) }
     ensures { result.count ≡ a.count -ℤ b.count }
 {
-    let p = a.count;
-    let q = b.count;
-    Sum { count: p - q }
+    Sum {
+        count: a.count - b.count,
+    }
 }
 
 // How far two sums lie apart.
@@ -152,29 +124,9 @@ pub fn distance(a: Sum, b: Sum) -> Sum
     requires { Bounds (a.count ∷ b.count ∷ []) (most_s ∷ most_s ∷ []) }
     ensures { result.count ≡ pos (nat_abs (a.count -ℤ b.count)) }
 {
-    let p = a.count;
-    let q = b.count;
-    if p < q {
-        Sum { count: q - p }
-    } else {
-        Sum { count: p - q }
+    Sum {
+        count: (a.count - b.count).abs(),
     }
-}
-
-pub fn lesser(a: Sum, b: Sum) -> Sum
-    ensures { result.count ≡ smaller a.count b.count }
-{
-    let p = a.count;
-    let q = b.count;
-    if p < q { a } else { b }
-}
-
-pub fn larger(a: Sum, b: Sum) -> Sum
-    ensures { result.count ≡ greater a.count b.count }
-{
-    let p = a.count;
-    let q = b.count;
-    if p < q { b } else { a }
 }
 
 // A sum over the denominator q: what stands above the stroke then. An index is made of it where its width is no line's.
@@ -183,8 +135,7 @@ pub fn over_denominator(s: Sum, q: u64) -> i64
     ensures value { result ≡ s.count *ℤ pos q }
     ensures small { nat_abs result ≤ 48000000000000 }
 {
-    let p = s.count;
-    p * (q as i64)
+    s.count * (q as i64)
 }
 
 // ---- differences
@@ -202,18 +153,18 @@ pub fn with_difference(sum: Difference, e: Difference) -> Difference
     requires { Bounds (sum.count ∷ e.count ∷ []) (most_difference_sum ∷ most_difference ∷ []) }
     ensures { result.count ≡ sum.count +ℤ e.count }
 {
-    let p = sum.count;
-    let q = e.count;
-    Difference { count: p + q }
+    Difference {
+        count: sum.count + e.count,
+    }
 }
 
 pub fn with_square(squares: Square, e: Difference) -> Square
     requires { Bounds (squares.count ∷ e.count ∷ []) (most_square_sum ∷ most_difference ∷ []) }
     ensures { result.count ≡ squares.count +ℤ e.count *ℤ e.count }
 {
-    let p = squares.count;
-    let q = e.count;
-    Square { count: p + q * q }
+    Square {
+        count: squares.count + e.count * e.count,
+    }
 }
 
 // n times the sum of the squares of n differences, less the square of their sum.
@@ -221,18 +172,18 @@ pub fn spread(n: usize, sum: Difference, squares: Square) -> u64
     requires { Bounds (pos n ∷ sum.count ∷ squares.count ∷ []) (10 ∷ most_difference_sum ∷ most_square_sum ∷ []) × (pos 0 ≤ℤ (pos n *ℤ squares.count -ℤ sum.count *ℤ sum.count)) }
     ensures { pos result ≡ pos n *ℤ squares.count -ℤ sum.count *ℤ sum.count }
 {
-    let k = n as i64;
-    let p = sum.count;
-    let q = squares.count;
-    (k * q - p * p) as u64
+    let n = n as i64;
+    (n * squares.count - sum.count * sum.count) as u64
 }
 
 // ---- parts
 // Where d is n a part is a sum unit.
-pub fn part_of(s: Sum) -> Part
-    ensures { result.count ≡ s.count }
-{
-    Part { count: s.count }
+impl From<Sum> for Part {
+    ghost from_gives = { λ s v. v.count ≡ s.count };
+
+    fn from(s: Sum) -> Part {
+        Part { count: s.count }
+    }
 }
 
 // The mean of the up stroke and the last one: where d is 2n, it counts U + D.
@@ -240,8 +191,7 @@ pub fn mean_of(up: Sum, down: Sum) -> Part
     requires { Bounds (up.count ∷ down.count ∷ []) (most_s ∷ most_s ∷ []) }
     ensures { result.count ≡ up.count +ℤ down.count }
 {
-    let s = plus(up, down);
-    part_of(s)
+    Part::from(plus(up, down))
 }
 
 // How far b lies above a, in parts.
@@ -250,9 +200,7 @@ pub fn rise(a: Part, b: Part) -> i64
     ensures value { result ≡ b.count -ℤ a.count }
     ensures small { nat_abs result ≤ 206000000 }
 {
-    let p = a.count;
-    let q = b.count;
-    q - p
+    b.count - a.count
 }
 
 // An input times a part, in units of both: what an offset is made of.
@@ -261,7 +209,5 @@ pub fn times(x: Input, v: Part) -> i64
     ensures value { result ≡ x.count *ℤ v.count }
     ensures small { nat_abs result ≤ 3090000000000 }
 {
-    let p = x.count;
-    let q = v.count;
-    p * q
+    x.count * v.count
 }

@@ -5,13 +5,14 @@ use lib.ListN.{get_or}
 use lib.Signed.{lt_z, lt_z_yes}
 use Rattle.whole.specs.Flags.{yes-T}
 use Rattle.units.specs.declared.Input.{Input}
+use Rattle.units.specs.Laws.{lt_is}
 use Rattle.pin.specs.SearchLaws.{start_first}
-use Rattle.pin.proofs.start_of.Goals.{After-is_below}
+use Rattle.pin.proofs.start_of.Goals.{After-lt}
 use Rattle.pin.proofs.start_of.Goals as goal
 
 -- what was tested
-test : (c : After-is_below) → let a = c.args in lt_z a.p.x.count (get_or a.x.now 0 (pos 0)) ≡ c.is_below.result
-test c = sym (c.is_below.ensures ∙ ap (λ (u : Input). lt_z c.args.p.x.count u.count) c.input_at.ensures)
+test : (c : After-lt) → let a = c.args in lt_z a.p.x.count (get_or a.x.now 0 (pos 0)) ≡ c.lt.result
+test c = sym (c.lt.ensures ∙ lt_is c.args.p.x.count c.input_at.result.count ∙ ap (λ (u : Input). lt_z c.args.p.x.count u.count) c.input_at.ensures)
 
-pub returns-then-is_below : goal.returns-then-is_below
-returns-then-is_below c = start_first c.requires.0.admitted.proper (lt_z_yes (yes-T (test (goal.at.returns-then-is_below c).After-is_below ∙ c.if-is_below.true)))
+pub returns-then-lt : goal.returns-then-lt
+returns-then-lt c = start_first c.requires.0.admitted.proper (lt_z_yes (yes-T (test (goal.at.returns-then-lt c).After-lt ∙ c.if-lt.true)))

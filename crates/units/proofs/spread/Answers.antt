@@ -16,7 +16,7 @@ abbrev β : List ℕ
 β = 10 ∷ most_difference_sum ∷ most_square_sum ∷ []
 
 pub overflow_cast-result : goal.overflow_cast-result
-overflow_cast-result c = let s = c.before.before in to_u64 (pos c.args.n ∷ c.args.sum.count ∷ c.args.squares.count ∷ []) β s.requires.0 q tt s.requires.1
+overflow_cast-result c = to_u64 (pos c.args.n ∷ c.args.sum.count ∷ c.args.squares.count ∷ []) β c.requires.0 q tt c.requires.1
 
 pub returns : goal.returns
-returns c = let s = c.before.before in ap pos (as_u64 (pos s.args.n ∷ s.args.sum.count ∷ s.args.squares.count ∷ []) β s.requires.0 q tt) ∙ nat_nonneg s.requires.1
+returns c = ap pos (as_u64 (pos c.args.n ∷ c.args.sum.count ∷ c.args.squares.count ∷ []) β c.requires.0 q tt) ∙ nat_nonneg c.requires.1

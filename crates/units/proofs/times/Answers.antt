@@ -15,4 +15,4 @@ abbrev β : List ℕ
 β = most_x ∷ most_v ∷ []
 
 pub returns : goal.returns
-returns c = record { value = ends (ρ c.before.before) β c.requires (var 0 ⊗ var 1) tt; small = stays (ρ c.before.before) β c.requires (var 0 ⊗ var 1) 3090000000000 tt tt }
+returns c = record { value = ends (ρ (goal.at.returns c).Start) β c.requires (var 0 ⊗ var 1) tt; small = stays (ρ (goal.at.returns c).Start) β c.requires (var 0 ⊗ var 1) 3090000000000 tt tt }
