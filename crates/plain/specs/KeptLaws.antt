@@ -16,6 +16,13 @@ pub kept_twice : (t a b : List ℕ) → kept (kept (t ++ a) ++ b) ≡ kept (t ++
 unfolding kept
 kept_twice t a b = take_front longest (t ++ a) b ∙ ap (take longest) (append_assoc t a b)
 
+-- parts, one after the other
+pub kept_two : (t a b : List ℕ) {q r : List ℕ} → q ≡ kept (t ++ a) → r ≡ kept (q ++ b) → r ≡ kept (t ++ (a ++ b))
+kept_two t a b e f = f ∙ ap (λ (l : List ℕ). kept (l ++ b)) e ∙ kept_twice t a b
+
+pub kept_is : (t : List ℕ) {r a b : List ℕ} → a ≡ b → r ≡ kept (t ++ a) → r ≡ kept (t ++ b)
+kept_is t e f = f ∙ ap (λ (l : List ℕ). kept (t ++ l)) e
+
 -- no more is kept than has room, and what has room is kept whole
 pub kept_most : (l : List ℕ) → length (kept l) ≤ longest
 unfolding kept

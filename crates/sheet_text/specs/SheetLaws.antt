@@ -1,15 +1,16 @@
 -- Laws of a sheet: its lines are the parts that a text grows by, and it fits a text.
-use Rattle.std.specs.Prelude.{◌≡◌, refl, Bool, true, false, cond, List, [], ◌∷◌, ◌++◌, ℕ, ◌+◌, ◌<◌, ltb, ℤ, length, take, drop}
-use Rattle.std.proofs.Common.{sym, ap, ap₂, subst, ◌∙◌, arith, eq-eqb, ne_eqb, ltb-true, ltb-false, take_all}
+use Rattle.std.specs.Prelude.{◌≡◌, refl, Bool, true, false, cond, List, [], ◌∷◌, ◌++◌, ℕ, ◌+◌, ◌<◌, ltb, ℤ, length, drop}
+use Rattle.std.proofs.Common.{sym, ap, ap₂, subst, ◌∙◌, arith, eq-eqb, ne_eqb, ltb-true, ltb-false}
 use Rattle.plain.specs.Digits.{digit, decimal}
 use Rattle.plain.specs.DigitLaws.{decimal_one}
-use Rattle.plain.specs.Plain.{space, line_feed, refused_word, at_word, refused_line, longest, printed, buffer_after}
-use Rattle.plain.specs.Grown.{grown, Put}
+use Rattle.plain.specs.Plain.{space, line_feed, refused_word, at_word, refused_line, printed, buffer_after, kept}
+use Rattle.plain.specs.KeptLaws.{kept_whole}
 use Rattle.plain.specs.Most.{fits_refused}
 use Rattle.plain.specs.declared.Printed.{Printed}
 use Rattle.run.specs.Run.{lent}
 use Rattle.run.specs.declared.Run.{Run}
 use Rattle.reader.specs.Into.{ReadInto, Opening}
+use Rattle.reader.specs.Meaning.{meaning}
 use Rattle.reader.specs.declared.Answer as meant
 use Rattle.reader.specs.declared.Taken.{Taken}
 use Rattle.due.specs.declared.Answer.{Answer}
@@ -50,20 +51,16 @@ module _ (a b c d e f g h i : Answer) where
   each P p q r s t u v w x index.Lh = w
   each P p q r s t u v w x index.Lhr = x
 
--- eleven lines that are put one behind the other
-module _ (m n : ℕ) (A : Index → Answer) {o p : List ℕ} {k : ℕ} (w : Put o 0 (lines m n A) p k) where
-  pub lines_put : take k p ≡ lines m n A
-  lines_put = w.is ∙ take_all longest (lines m n A) (fits_lines m n A)
+-- ---- the sheet of a byte string that was read, on a page that was empty
+module _ {s : List ℕ} {x y : List ℤ} {t : Taken} (e : ReadInto s x y t) {l p : List ℕ} (empty : l ≡ []) where
+  pub sheet_refused : (t.number ≡ 0 → ⊥) → p ≡ kept (l ++ refused_line t.number t.place) → SheetDue s p
+  sheet_refused n f = refused (λ z. n (e.number ∙ z)) (kept_whole empty f (fits_refused t.number t.place) ∙ ap₂ refused_line e.number e.place)
 
--- ---- the sheet of a byte string that was read
-module _ {s : List ℕ} {x y : List ℤ} {t : Taken} (e : ReadInto s x y t) where
-  pub sheet_refused : {l : List ℕ} → (t.number ≡ 0 → ⊥) → l ≡ grown [] (refused_line t.number t.place) → SheetDue s l
-  sheet_refused {l} n f = refused (λ z. n (e.number ∙ z)) (f ∙ take_all longest (refused_line t.number t.place) (fits_refused t.number t.place) ∙ ap₂ refused_line e.number e.place)
-
-  pub sheet_accepted : (p : List ℕ) (k : ℕ) → t.number ≡ 0 → RunText (lent t.sizes x y) p k → SheetDue s (take k p)
-  sheet_accepted p k z f =
-      let g = subst (λ (r : Run). RunText r p k) (sym (e.run z)) f in
-      accepted (sym e.number ∙ z) g.answers g.due g.is
+  pub sheet_accepted : t.number ≡ 0 → RunText (lent t.sizes x y) l p → SheetDue s p
+  sheet_accepted z f =
+      let g = subst (λ (r : Run). RunText r l p) (sym (e.run z)) f in
+      let r = (meaning s).run in
+      accepted (sym e.number ∙ z) g.answers g.due (kept_whole empty g.is (fits_lines r.m r.n g.answers))
 
 -- ---- the sheet of a byte string that is refused at its opening
 pub sheet_unopened : {s : List ℕ} {t : Taken} → Opening s t → (t.number ≡ 0 → ⊥) → SheetDue s (refused_line t.number 0)
