@@ -1,6 +1,7 @@
 -- `place_text::put_of_point` meets its contract: the head with the number of the record that gives the point's input, the point, and what more is told, one behind the other. The point is one of the run, so the array has its label.
+use Rattle.std.proofs.Common.{append_assoc}
 use native.Mathlib.Omega.{arith}
-use Rattle.plain.specs.KeptLaws.{kept_two, kept_is}
+use Rattle.plain.specs.KeptLaws.{kept_twice, kept_is}
 use Rattle.detail.specs.Arrays.{blank_marked}
 use Rattle.place_text.specs.Told.{point_within}
 use Rattle.place_text.specs.Lines.{of_point, point_parts}
@@ -21,4 +22,4 @@ more_of_point-requires c = of_point c.requires.0 c.requires.1 c.number_records.e
 pub returns : goal.returns
 returns c =
     kept_is _ (point_parts c.requires.0 c.requires.1 c.number_records.ensures c.more_of_point.ensures)
-    (kept_two _ _ _ c.put_head.ensures (kept_two _ _ _ (kept_two _ _ _ c.put_point.ensures c.put_byte.ensures) c.put_detail.ensures))
+    (simp (c.put_detail.ensures, c.put_byte.ensures, c.put_point.ensures, c.put_head.ensures, kept_twice, append_assoc))
