@@ -4,7 +4,7 @@ use Rattle.std.proofs.Common.{sym, ap, ap₂, subst, ◌∙◌, arith, eq-eqb, n
 use Rattle.plain.specs.Digits.{digit, decimal}
 use Rattle.plain.specs.DigitLaws.{decimal_one}
 use Rattle.plain.specs.Plain.{space, line_feed, refused_word, at_word, refused_line, printed, buffer_after, kept}
-use Rattle.plain.specs.KeptLaws.{kept_whole}
+use Rattle.plain.specs.KeptLaws.{kept_two, kept_whole}
 use Rattle.plain.specs.Most.{fits_refused}
 use Rattle.plain.specs.declared.Printed.{Printed}
 use Rattle.run.specs.Run.{lent}
@@ -16,7 +16,7 @@ use Rattle.reader.specs.declared.Taken.{Taken}
 use Rattle.due.specs.declared.Answer.{Answer}
 use Rattle.due.specs.declared.Index.{Index}
 use Rattle.due.specs.declared.Index.TheVariants as index
-use Rattle.sheet_text.specs.Sheet.{told, lines, SheetDue, refused, accepted, PrintDue, fits, short}
+use Rattle.sheet_text.specs.Sheet.{head_line, told, index_line, last_line, lines, SheetDue, refused, accepted, PrintDue, fits, short}
 use Rattle.sheet_text.specs.Grown.{RunText}
 use Rattle.sheet_text.specs.Longest.{fits_lines}
 
@@ -50,6 +50,35 @@ module _ (a b c d e f g h i : Answer) where
   each P p q r s t u v w x index.Repeatability = v
   each P p q r s t u v w x index.Lh = w
   each P p q r s t u v w x index.Lhr = x
+
+-- eleven lines that are put one behind the other
+module _ (m n : ℕ) (A : Index → Answer) where
+  abbrev line : Index → List ℕ
+  line i = index_line i (A i)
+
+  pub lines_put : (t : List ℕ) {a b c d e f g h i j p : List ℕ}
+      → a ≡ kept (t ++ head_line m n)
+      → b ≡ kept (a ++ line index.Terminal)
+      → c ≡ kept (b ++ line index.Shifted)
+      → d ≡ kept (c ++ line index.Independent)
+      → e ≡ kept (d ++ line index.Zero)
+      → f ≡ kept (e ++ line index.Front)
+      → g ≡ kept (f ++ line index.Hysteresis)
+      → h ≡ kept (g ++ line index.Repeatability)
+      → i ≡ kept (h ++ line index.Lh)
+      → j ≡ kept (i ++ line index.Lhr)
+      → p ≡ kept (j ++ last_line (A index.Lhr)) → p ≡ kept (t ++ lines m n A)
+  lines_put t {a} {b} {c} {d} {e} {f} {g} {h} {i} q₀ q₁ q₂ q₃ q₄ q₅ q₆ q₇ q₈ q₉ q₁₀ =
+      kept_two t (head_line m n) _ q₀
+      (kept_two a (line index.Terminal) _ q₁
+      (kept_two b (line index.Shifted) _ q₂
+      (kept_two c (line index.Independent) _ q₃
+      (kept_two d (line index.Zero) _ q₄
+      (kept_two e (line index.Front) _ q₅
+      (kept_two f (line index.Hysteresis) _ q₆
+      (kept_two g (line index.Repeatability) _ q₇
+      (kept_two h (line index.Lh) _ q₈
+      (kept_two i (line index.Lhr) _ q₉ q₁₀)))))))))
 
 -- ---- the sheet of a byte string that was read, on a page that was empty
 module _ {s : List ℕ} {x y : List ℤ} {t : Taken} (e : ReadInto s x y t) {l p : List ℕ} (empty : l ≡ []) where

@@ -3,7 +3,8 @@ use mathlib.Core.Path.{◌≡◌, ap, ap₂}
 use mathlib.Core.List.{List, ◌++◌}
 use Prim.Native.Nat.{ℕ}
 use Rattle.plain.specs.Plain.{kept}
-use Rattle.plain.specs.KeptLaws.{kept_two, kept_is}
+use Rattle.plain.specs.KeptLaws.{kept_is}
+use Rattle.run.specs.Run.{lent}
 use Rattle.due.specs.Due.{Due}
 use Rattle.due.specs.Ground.{shown}
 use Rattle.due.specs.declared.Answer.{Answer}
@@ -12,7 +13,7 @@ use Rattle.due.specs.declared.Index.TheVariants as index
 use Rattle.due.specs.declared.Shown.{Shown}
 use Rattle.sheet_text.specs.Sheet.{index_line}
 use Rattle.sheet_text.specs.Grown.{shown_line, ruled_line}
-use Rattle.sheet_text.specs.SheetLaws.{answers, each}
+use Rattle.sheet_text.specs.SheetLaws.{answers, each, lines_put}
 use Rattle.sheet_text.proofs.put_run.Goals as goal
 
 -- a line of what is shown is the line of the answer
@@ -22,7 +23,9 @@ line i a t e = kept_is t (ap (shown_line i) e)
 pub returns : goal.returns
 returns c =
     let d = c.nine_over-q.ensures in
+    let r = lent c.args.z c.args.x.now c.args.y.now in
     let last = d.lhr.told in
+    let A = answers d.terminal.answer d.shifted.answer d.independent.answer d.zero.answer d.front.answer d.hysteresis.answer d.repeatability.answer d.lh.answer last.answer in
     let terminal = line index.Terminal d.terminal.answer _ d.terminal.is c.put_index.ensures in
     let shifted = line index.Shifted d.shifted.answer _ d.shifted.is c.put_index-2.ensures in
     let independent = line index.Independent d.independent.answer _ d.independent.is c.put_index-3.ensures in
@@ -34,7 +37,7 @@ returns c =
     let lhr = line index.Lhr last.answer _ last.is c.put_index-9.ensures in
     let end = kept_is _ (ap₂ ruled_line (ap (λ (s : Shown). s.number) last.is) d.lhr.line) c.put_last.ensures in
     record {
-      answers = answers d.terminal.answer d.shifted.answer d.independent.answer d.zero.answer d.front.answer d.hysteresis.answer d.repeatability.answer d.lh.answer last.answer;
-      due = each d.terminal.answer d.shifted.answer d.independent.answer d.zero.answer d.front.answer d.hysteresis.answer d.repeatability.answer d.lh.answer last.answer (λ w x. Due w _ x) d.terminal.due d.shifted.due d.independent.due d.zero.due d.front.due d.hysteresis.due d.repeatability.due d.lh.due last.due;
-      is = kept_two _ _ _ c.put_head.ensures (kept_two _ _ _ terminal (kept_two _ _ _ shifted (kept_two _ _ _ independent (kept_two _ _ _ zero (kept_two _ _ _ front (kept_two _ _ _ hysteresis (kept_two _ _ _ repeatability (kept_two _ _ _ lh (kept_two _ _ _ lhr end)))))))));
+      answers = A;
+      due = each d.terminal.answer d.shifted.answer d.independent.answer d.zero.answer d.front.answer d.hysteresis.answer d.repeatability.answer d.lh.answer last.answer (λ w x. Due w r x) d.terminal.due d.shifted.due d.independent.due d.zero.due d.front.due d.hysteresis.due d.repeatability.due d.lh.due last.due;
+      is = lines_put r.m r.n A _ c.put_head.ensures terminal shifted independent zero front hysteresis repeatability lh lhr end;
     }
