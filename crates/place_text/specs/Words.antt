@@ -10,8 +10,6 @@ use Rattle.record.specs.Kinds.{run_file}
 use Rattle.reader.specs.Meaning.{meaning}
 use Rattle.plain.specs.Plain.{longest, line_feed, refused_word, at_word}
 use Rattle.plain.specs.Digits.{decimal}
-use Rattle.plain.specs.Grown.{Put}
-use Rattle.plain.specs.GrownLaws.{put_is}
 use Rattle.plain.specs.Most.{Most, word, after, joined, decimal_most}
 use Rattle.spoken.specs.Said.{points_word, point_word, cycle_word, stroke_word, reading_place, spaced}
 use Rattle.spoken.specs.Long.{strokes_long}
@@ -43,10 +41,6 @@ pub line_parts : (k : ℕ) (ws : List (List ℕ)) → head k ++ (led ws ++ (line
 unfolding spaced
 line_parts k ws =
     ap (λ (l : List ℕ). record_name ++ (32 ∷ l)) (spaced_led (decimal k ++ (58 ∷ [])) ws)
-
--- the last word has nothing behind it
-pub put_last : {o p a : List ℕ} {i j : ℕ} → Put o i a p j → Put o i (a ++ []) p j
-put_last {a = a} e = put_is (sym (append-nil a)) e
 
 -- a place as a line of a text begins
 pub reading_led : (s c i : ℕ) → s < 2 → 32 ∷ reading_place s c i ≡ led (place_words (reading_at s c i))

@@ -1,11 +1,11 @@
 // Which record the place of a refused run file means, as bytes.
 #![tactic(auto)]
 
-ghost use Rattle.std.specs.Prelude.{[], ◌∷◌, ◌++◌, cond, ◌≡◌, ◌<◌, ◌≤◌, ltb, length};
+ghost use Rattle.std.specs.Prelude.{[], ◌∷◌, ◌++◌, cond, ◌≡◌, ◌<◌, ◌≤◌, ltb};
 ghost use Rattle.run.specs.Places.{input_at, reading_at};
 ghost use Rattle.plain.specs.Digits.{decimal};
-ghost use Rattle.plain.specs.Grown.{Put};
 ghost use Rattle.plain.specs.Plain as P;
+ghost use Rattle.plain.specs.Plain.{kept};
 ghost use Rattle.records.specs.Record.{closes};
 ghost use Rattle.record.specs.Kinds.{as_record};
 ghost use Rattle.detail.specs.Marks.{Marked};
@@ -18,7 +18,7 @@ ghost use Rattle.place_text.specs.Told.{Means, OfRecord, OfPoint};
 use detail::Detail;
 use held::record_at;
 use limits::Sizes;
-use plain::{Printed, put_byte, put_bytes, put_decimal};
+use plain::{Page, Printed};
 use record::{Found, Record};
 
 // ---- the records, numbered
@@ -95,97 +95,92 @@ fn number_records(s: &[u8], limit: usize, labels: &mut [usize; 231], y: &mut [i6
 }
 
 // ---- a record in words
-fn put_opening(out: &mut [u8; 831], at: usize, z: Sizes) -> usize
-    requires { length out.old ≡ 831 }
-    ensures { Put out.old at (led (S.record_words (as_record (Record.Opening z)))) out.new result }
+#[tactic(auto, using(plain::specs::KeptLaws::kept_twice, std::proofs::lemmas::Grind::common_steps), unfolding(crate::specs::Words::led))]
+fn put_opening(page: &mut Page, z: Sizes)
+    ensures { page.new ≡ kept (page.old ++ led (S.record_words (as_record (Record.Opening z)))) }
 {
-    let m = z.m;
-    let n = z.n;
-    let strokes = z.strokes;
-    let points = put_bytes(out, at, b" points ");
-    let m_told = put_decimal(out, points, m as u64);
-    let space = put_byte(out, m_told, b' ');
-    let named = spoken::put_strokes(out, space, strokes);
-    let behind = put_byte(out, named, b' ');
-    put_decimal(out, behind, n as u64)
+    page.put_bytes(b" points ");
+    page.put_decimal(z.m as u64);
+    page.put_byte(b' ');
+    spoken::put_strokes(page, z.strokes);
+    page.put_byte(b' ');
+    page.put_decimal(z.n as u64);
 }
 
-fn put_point(out: &mut [u8; 831], at: usize, i: usize) -> usize
-    requires { length out.old ≡ 831 }
-    ensures { Put out.old at (led (S.place_words (input_at i))) out.new result }
+#[tactic(auto, using(plain::specs::KeptLaws::kept_twice, std::proofs::lemmas::Grind::common_steps), unfolding(crate::specs::Words::led))]
+fn put_point(page: &mut Page, i: usize)
+    ensures { page.new ≡ kept (page.old ++ led (S.place_words (input_at i))) }
 {
-    let point = put_bytes(out, at, b" point ");
-    put_decimal(out, point, i as u64)
+    page.put_bytes(b" point ");
+    page.put_decimal(i as u64);
 }
 
-fn put_reading(out: &mut [u8; 831], at: usize, s: usize, c: usize, i: usize) -> usize
-    requires { length out.old ≡ 831 }
-    ensures { Put out.old at (led (S.place_words (reading_at s c i))) out.new result }
+#[tactic(auto, using(plain::specs::KeptLaws::kept_twice, crate::specs::Words::reading_led, crate::specs::Words::stroke_led))]
+fn put_reading(page: &mut Page, s: usize, c: usize, i: usize)
+    ensures { page.new ≡ kept (page.old ++ led (S.place_words (reading_at s c i))) }
 {
     if s < 2 {
-        let space = put_byte(out, at, b' ');
-        return spoken::put_reading_place(out, space, s, c, i);
+        page.put_byte(b' ');
+        spoken::put_reading_place(page, s, c, i);
+    } else {
+        page.put_bytes(b" stroke ");
+        page.put_decimal(s as u64);
     }
-    let stroke = put_bytes(out, at, b" stroke ");
-    put_decimal(out, stroke, s as u64)
 }
 
-fn put_record(out: &mut [u8; 831], at: usize, r: Record) -> usize
-    requires { length out.old ≡ 831 }
-    ensures { Put out.old at (led (S.record_words (as_record r))) out.new result }
+#[tactic(auto, using(plain::specs::KeptLaws::kept_twice, std::proofs::lemmas::Grind::common_steps), unfolding(crate::specs::Words::led))]
+fn put_record(page: &mut Page, r: Record)
+    ensures { page.new ≡ kept (page.old ++ led (S.record_words (as_record r))) }
 {
     match r {
-        Record::Opening { sizes } => put_opening(out, at, sizes),
-        Record::Point { index, x: _ } => put_point(out, at, index),
+        Record::Opening { sizes } => put_opening(page, sizes),
+        Record::Point { index, x: _ } => put_point(page, index),
         Record::Value {
             stroke,
             cycle,
             index,
             y: _,
-        } => put_reading(out, at, stroke, cycle, index),
-        Record::Close => put_bytes(out, at, b" close"),
+        } => put_reading(page, stroke, cycle, index),
+        Record::Close => page.put_bytes(b" close"),
     }
 }
 
-fn put_kind(out: &mut [u8; 831], at: usize, kind: u8) -> usize
-    requires { length out.old ≡ 831 }
-    ensures { Put out.old at (led (S.kind_name ∷ decimal kind ∷ [])) out.new result }
+#[tactic(auto, using(plain::specs::KeptLaws::kept_twice, std::proofs::lemmas::Grind::common_steps), unfolding(crate::specs::Words::led))]
+fn put_kind(page: &mut Page, kind: u8)
+    ensures { page.new ≡ kept (page.old ++ led (S.kind_name ∷ decimal kind ∷ [])) }
 {
-    let word = put_bytes(out, at, b" kind ");
-    put_decimal(out, word, kind as u64)
+    page.put_bytes(b" kind ");
+    page.put_decimal(kind as u64);
 }
 
 // What stands at an offset.
-fn put_standing(out: &mut [u8; 831], at: usize, s: &[u8], place: usize) -> usize
-    requires { length out.old ≡ 831 }
-    ensures { Put out.old at (led (S.words_at s.now place)) out.new result }
+fn put_standing(page: &mut Page, s: &[u8], place: usize)
+    ensures { page.new ≡ kept (page.old ++ led (S.words_at s.now place)) }
 {
     match record_at(s, place, place == 0) {
-        Found::Item { record, next: _ } => put_record(out, at, record),
+        Found::Item { record, next: _ } => put_record(page, record),
         Found::Cut => {
             if s.len() <= place {
-                put_bytes(out, at, b" not there")
+                page.put_bytes(b" not there");
             } else {
-                put_bytes(out, at, b" cut short")
+                page.put_bytes(b" cut short");
             }
         }
         Found::Unknown => {
-            if s.len() <= place {
-                at
-            } else {
-                put_kind(out, at, s[place])
+            if place < s.len() {
+                put_kind(page, s[place]);
             }
         }
     }
 }
 
-fn put_head(out: &mut [u8; 831], at: usize, k: usize) -> usize
-    requires { length out.old ≡ 831 }
-    ensures { Put out.old at (head k) out.new result }
+#[tactic(auto, using(plain::specs::KeptLaws::kept_twice))]
+fn put_head(page: &mut Page, k: usize)
+    ensures { page.new ≡ kept (page.old ++ head k) }
 {
-    let word = put_bytes(out, at, b"record ");
-    let told = put_decimal(out, word, k as u64);
-    put_byte(out, told, b':')
+    page.put_bytes(b"record ");
+    page.put_decimal(k as u64);
+    page.put_byte(b':');
 }
 
 // ---- what more is told
@@ -234,67 +229,62 @@ fn more_of_point(
 }
 
 // ---- the lines
-fn put_what(out: &mut [u8; 831], at: usize, s: &[u8], number: usize, place: usize) -> usize
-    requires { length out.old ≡ 831 }
-    ensures { Put out.old at (led (what_words s.now number place) ++ (10 ∷ [])) out.new result }
+fn put_what(page: &mut Page, s: &[u8], number: usize, place: usize)
+    ensures { page.new ≡ kept (page.old ++ (led (what_words s.now number place) ++ (10 ∷ []))) }
 {
     if number == 8 {
-        put_bytes(out, at, b" behind the close\n")
+        page.put_bytes(b" behind the close\n");
     } else {
-        let told = put_standing(out, at, s, place);
-        put_byte(out, told, b'\n')
+        put_standing(page, s, place);
+        page.put_byte(b'\n');
     }
 }
 
 // 1 to 8 are told of the record at their place.
-fn put_at(out: &mut [u8; 831], at: usize, s: &[u8], number: usize, place: usize) -> usize
-    requires { (length out.old ≡ 831) × Means s.now number place × (number < 9) }
-    ensures { Put out.old at (S.told_of s.now number place ++ detail_line record_name (S.detail_of s.now number place)) out.new result }
+fn put_at(page: &mut Page, s: &[u8], number: usize, place: usize)
+    requires { Means s.now number place × (number < 9) }
+    ensures { page.new ≡ kept (page.old ++ (S.told_of s.now number place ++ detail_line record_name (S.detail_of s.now number place))) }
 {
     let mut labels = [0; 231];
     let mut y = [0; 220];
-    let k = number_records(s, place, &mut labels, &mut y);
-    let head = put_head(out, at, k);
-    let line = put_what(out, head, s, number, place);
-    sentences::put_detail(out, line, b"record", more_at(s, number, place, &labels))
+    put_head(page, number_records(s, place, &mut labels, &mut y));
+    put_what(page, s, number, place);
+    sentences::put_detail(page, b"record", more_at(s, number, place, &labels));
 }
 
 // 9 and 10 are told of the record that gives the point's input.
-fn put_of_point(out: &mut [u8; 831], at: usize, s: &[u8], number: usize, place: usize) -> usize
-    requires { (length out.old ≡ 831) × Means s.now number place × (9 ≤ number) }
-    ensures { Put out.old at (S.told_of s.now number place ++ detail_line record_name (S.detail_of s.now number place)) out.new result }
+fn put_of_point(page: &mut Page, s: &[u8], number: usize, place: usize)
+    requires { Means s.now number place × (9 ≤ number) }
+    ensures { page.new ≡ kept (page.old ++ (S.told_of s.now number place ++ detail_line record_name (S.detail_of s.now number place))) }
 {
     let mut labels = [0; 231];
     let mut y = [0; 220];
     number_records(s, s.len(), &mut labels, &mut y);
-    let head = put_head(out, at, labels[place]);
-    let named = put_point(out, head, place);
-    let line = put_byte(out, named, b'\n');
+    put_head(page, labels[place]);
+    put_point(page, place);
+    page.put_byte(b'\n');
     sentences::put_detail(
-        out,
-        line,
+        page,
         b"record",
         more_of_point(s, number, place, &labels, &y),
-    )
+    );
 }
 
-fn put_place(out: &mut [u8; 831], s: &[u8]) -> usize
-    requires { length out.old ≡ 831 }
-    ensures { Put out.old 0 (S.place_of s.now) out.new result }
+fn put_place(page: &mut Page, s: &[u8])
+    ensures { page.new ≡ kept (page.old ++ S.place_of s.now) }
 {
     let mut x = [0; 11];
     let mut y = [0; 220];
     let t = reader::read_into(s, &mut x, &mut y);
-    let number = t.number;
-    let place = t.place;
-    if number == 0 {
-        return put_bytes(out, 0, b"nothing is refused\n");
+    if t.number == 0 {
+        page.put_bytes(b"nothing is refused\n");
+        return;
     }
-    let told = plain::put_refused(out, 0, number, place);
-    if number < 9 {
-        put_at(out, told, s, number, place)
+    page.put_refused(t.number, t.place);
+    if t.number < 9 {
+        put_at(page, s, t.number, t.place);
     } else {
-        put_of_point(out, told, s, number, place)
+        put_of_point(page, s, t.number, t.place);
     }
 }
 
@@ -303,7 +293,7 @@ pub fn place(file: &[u8], out: &mut [u8]) -> Printed
     ensures answer { result ≡ P.printed (S.place_of file.now) out.old }
     ensures after { out.new ≡ P.buffer_after (S.place_of file.now) out.old }
 {
-    let mut told = [0u8; 831];
-    let len = put_place(&mut told, file);
-    plain::print(&told[..len], out)
+    let mut page = Page::new();
+    put_place(&mut page, file);
+    plain::print(page.bytes(), out)
 }

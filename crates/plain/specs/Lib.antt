@@ -1,7 +1,5 @@
 pub mod Digits
 pub mod Plain
-pub mod Grown
-pub mod GrownLaws
+pub mod KeptLaws
 pub mod DigitLaws
 pub mod Most
-pub mod CopyLaws

@@ -1,5 +1,5 @@
 -- What programs print in one way: the refusal line, and a text at the front of a lent buffer (the paper, "In what any program prints"). Definitions only.
-use Rattle.std.specs.Prelude.{cond, List, [], ◌∷◌, ◌++◌, ℕ, ltb, length, drop}
+use Rattle.std.specs.Prelude.{cond, List, [], ◌∷◌, ◌++◌, ℕ, ltb, length, take, drop}
 use Rattle.plain.specs.Digits.{decimal}
 use Rattle.plain.specs.declared.Printed.{Printed}
 
@@ -25,6 +25,10 @@ refused_line number place = refused_word ++ (decimal number ++ (at_word ++ (deci
 -- a text holds at most 831 bytes: no sheet is longer (`sheet_text`, `Longest`)
 abbrev pub longest : ℕ
 longest = 831
+
+-- what a page keeps of bytes that are put on it: the first 831
+unfoldable pub kept : List ℕ → List ℕ
+kept l = take longest l
 
 -- what putting t at the front of a lent buffer answers: 14 where that is too short
 abbrev pub printed : List ℕ → List ℕ → Printed

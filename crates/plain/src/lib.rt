@@ -1,14 +1,14 @@
-// Plain text: numbers in decimal and the refusal line, put into a lent array behind what stands there; and bytes at the front of a lent buffer.
+// Plain text: numbers in decimal and the refusal line, put on a page behind what stands there; and bytes at the front of a lent buffer.
 #![tactic(auto)]
 
 ghost use Rattle.std.specs.Prelude.{◌∷◌, [], ◌++◌, ◌≡◌, ◌+◌, ◌≤◌, length};
 ghost use Rattle.std.proofs.lemmas.List.Edits.{sets};
 ghost use Rattle.plain.specs.Digits.{decimal, signed, fraction, percent};
 ghost use Rattle.plain.specs.Digits as D;
-ghost use Rattle.plain.specs.Plain.{refused_word, refused_line, printed, buffer_after};
-ghost use Rattle.plain.specs.Grown.{Put};
+ghost use Rattle.plain.specs.Plain.{refused_word, refused_line, printed, buffer_after, kept};
 
 use exact::Fraction;
+use std::marker::Model;
 
 // 0 and the length of what is printed; or 14 and 0, where the lent buffer is too short.
 #[derive(Clone, Copy)]
@@ -22,12 +22,9 @@ pub fn copy(s: &[u8], out: &mut [u8], at: usize) -> usize
     requires { at + length s.now ≤ length out.old }
     ensures { (result ≡ at + length s.now) × (out.new ≡ sets out.old at s.now) }
 {
-    let mut i = 0;
-    while i < s.len() {
-        out[at + i] = s[i];
-        i += 1;
-    }
-    at + i
+    let end = at + s.len();
+    out[at..end].copy_from_slice(s);
+    end
 }
 
 // Puts lent bytes at the front of a lent buffer, if they fit.
@@ -42,97 +39,119 @@ pub fn print(s: &[u8], out: &mut [u8]) -> Printed
     Printed { number: 0, len }
 }
 
-// ---- Bytes are put behind the first `at` of a lent array, and it is told how many there are then. What does not fit is dropped, and no sheet needs more.
-pub fn put_byte(out: &mut [u8; 831], at: usize, b: u8) -> usize
-    requires { length out.old ≡ 831 }
-    ensures { Put out.old at (b ∷ []) out.new result }
-{
-    if 831 <= at {
-        return at;
-    }
-    out[at] = b;
-    at + 1
-}
-
-pub fn put_bytes(out: &mut [u8; 831], at: usize, s: &[u8]) -> usize
-    requires { length out.old ≡ 831 }
-    ensures { Put out.old at s.now out.new result }
-{
-    let mut next = at;
-    let mut i = 0;
-    while i < s.len() {
-        next = put_byte(out, next, s[i]);
-        i += 1;
-    }
-    next
-}
-
 fn digit(v: u64) -> u8
     ensures { result ≡ D.digit v }
 {
     48 + (v % 10) as u8
 }
 
-pub fn put_decimal(out: &mut [u8; 831], at: usize, v: u64) -> usize
-    requires { length out.old ≡ 831 }
-    ensures { Put out.old at (decimal v) out.new result }
-{
-    if v < 10 {
-        return put_byte(out, at, digit(v));
+// Bytes, of which each goes behind those that stand there. What does not fit is dropped, and no sheet needs more room.
+#[derive(Drop)]
+pub struct Page {
+    bytes: [u8; 831],
+    len: usize,
+}
+
+impl Model for Page {
+    ghost use Rattle.std.specs.Prelude.{ℕ, List, ◌≤◌, take};
+
+    ghost Value = { List ℕ };
+
+    ghost view = { λ p. take p.len p.bytes };
+
+    ghost invariant = { λ p. p.len ≤ 831 };
+}
+
+// Parts that go on a page one behind the other are on it together.
+#[tactic(auto, using(crate::specs::KeptLaws::kept_twice, crate::specs::DigitLaws::decimal_one, crate::specs::DigitLaws::decimal_more))]
+impl Page {
+    // An empty one.
+    pub fn new() -> Self
+        ensures { result ≡ [] }
+    {
+        Page {
+            bytes: [0; 831],
+            len: 0,
+        }
     }
-    let next = put_decimal(out, at, v / 10);
-    put_byte(out, next, digit(v))
-}
 
-pub fn put_signed(out: &mut [u8; 831], at: usize, z: i64) -> usize
-    requires { length out.old ≡ 831 }
-    ensures { Put out.old at (signed z) out.new result }
-{
-    let n = exact::size(z);
-    if z < 0 {
-        let next = put_byte(out, at, b'-');
-        return put_decimal(out, next, n);
+    // What stands on it.
+    pub fn bytes(&self) -> &[u8]
+        ensures { result.now ≡ self.now }
+    {
+        &self.bytes[..self.len]
     }
-    put_decimal(out, at, n)
-}
 
-pub fn put_fraction(out: &mut [u8; 831], at: usize, f: Fraction) -> usize
-    requires { length out.old ≡ 831 }
-    ensures { Put out.old at (fraction f) out.new result }
-{
-    let above = put_signed(out, at, f.num);
-    let line = put_byte(out, above, b'/');
-    put_decimal(out, line, f.den)
-}
+    pub fn put_byte(&mut self, b: u8)
+        ensures { self.new ≡ kept (self.old ++ (b ∷ [])) }
+    {
+        if self.len < 831 {
+            self.bytes[self.len] = b;
+            self.len += 1;
+        }
+    }
 
-pub fn put_percent(out: &mut [u8; 831], at: usize, v: u64) -> usize
-    requires { length out.old ≡ 831 }
-    ensures { Put out.old at (percent v) out.new result }
-{
-    let whole = put_decimal(out, at, v / 1000);
-    let point = put_byte(out, whole, b'.');
-    let one = put_byte(out, point, digit(v / 100));
-    let two = put_byte(out, one, digit(v / 10));
-    put_byte(out, two, digit(v))
-}
+    pub fn put_bytes(&mut self, s: &[u8])
+        ensures { self.new ≡ kept (self.old ++ s.now) }
+    {
+        let room = (831 - self.len).min(s.len());
+        let end = self.len + room;
+        self.bytes[self.len..end].copy_from_slice(&s[..room]);
+        self.len = end;
+    }
 
-// `refused` and the number.
-pub fn put_number(out: &mut [u8; 831], at: usize, number: u8) -> usize
-    requires { length out.old ≡ 831 }
-    ensures { Put out.old at (refused_word ++ decimal number) out.new result }
-{
-    let word = put_bytes(out, at, b"refused ");
-    put_decimal(out, word, number as u64)
-}
+    pub fn put_decimal(&mut self, v: u64)
+        ensures { self.new ≡ kept (self.old ++ decimal v) }
+    {
+        if v >= 10 {
+            self.put_decimal(v / 10);
+        }
+        self.put_byte(digit(v));
+    }
 
-// The refusal line of a file.
-pub fn put_refused(out: &mut [u8; 831], at: usize, number: usize, place: usize) -> usize
-    requires { length out.old ≡ 831 }
-    ensures { Put out.old at (refused_line number place) out.new result }
-{
-    let refused = put_bytes(out, at, b"refused ");
-    let numbered = put_decimal(out, refused, number as u64);
-    let word = put_bytes(out, numbered, b" at ");
-    let placed = put_decimal(out, word, place as u64);
-    put_byte(out, placed, b'\n')
+    pub fn put_signed(&mut self, z: i64)
+        ensures { self.new ≡ kept (self.old ++ signed z) }
+    {
+        if z < 0 {
+            self.put_byte(b'-');
+        }
+        self.put_decimal(exact::size(z));
+    }
+
+    pub fn put_fraction(&mut self, f: Fraction)
+        ensures { self.new ≡ kept (self.old ++ fraction f) }
+    {
+        self.put_signed(f.num);
+        self.put_byte(b'/');
+        self.put_decimal(f.den);
+    }
+
+    pub fn put_percent(&mut self, v: u64)
+        ensures { self.new ≡ kept (self.old ++ percent v) }
+    {
+        self.put_decimal(v / 1000);
+        self.put_byte(b'.');
+        self.put_byte(digit(v / 100));
+        self.put_byte(digit(v / 10));
+        self.put_byte(digit(v));
+    }
+
+    // `refused` and the number.
+    pub fn put_number(&mut self, number: u8)
+        ensures { self.new ≡ kept (self.old ++ (refused_word ++ decimal number)) }
+    {
+        self.put_bytes(b"refused ");
+        self.put_decimal(number as u64);
+    }
+
+    // The refusal line of a file.
+    pub fn put_refused(&mut self, number: usize, place: usize)
+        ensures { self.new ≡ kept (self.old ++ refused_line number place) }
+    {
+        self.put_bytes(b"refused ");
+        self.put_decimal(number as u64);
+        self.put_bytes(b" at ");
+        self.put_decimal(place as u64);
+        self.put_byte(b'\n');
+    }
 }

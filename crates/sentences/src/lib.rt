@@ -1,113 +1,112 @@
 // How the refusal of a typed text is told, and what more is told of any refusal.
 #![tactic(auto)]
 
-ghost use Rattle.std.specs.Prelude.{◌∷◌, ◌++◌, ◌≡◌, length};
+ghost use Rattle.std.specs.Prelude.{◌∷◌, ◌++◌, ◌≡◌};
 ghost use Rattle.plain.specs.Digits.{decimal};
-ghost use Rattle.plain.specs.Grown.{Put};
 ghost use Rattle.plain.specs.Plain as P;
+ghost use Rattle.plain.specs.Plain.{kept};
 ghost use Rattle.sentences.specs.Sentences as S;
 
 use detail::Detail;
-use plain::{Printed, put_byte, put_bytes, put_decimal};
+use plain::{Page, Printed};
 
-fn put_sentence(out: &mut [u8; 831], at: usize, number: u8) -> usize
-    requires { length out.old ≡ 831 }
-    ensures { Put out.old at (S.sentence number) out.new result }
+fn put_sentence(page: &mut Page, number: u8)
+    ensures { page.new ≡ kept (page.old ++ S.sentence number) }
 {
-    match number {
-        41 => put_bytes(out, at, b"no line tells points and cycles\n"),
-        42 => put_bytes(out, at, b"this line is not understood\n"),
-        43 => put_bytes(out, at, b"3 to 11 points and 1 to 10 cycles\n"),
-        44 => put_bytes(out, at, b"no such point or cycle or stroke here\n"),
-        45 => put_bytes(out, at, b"this number is beyond its limits\n"),
-        46 => put_bytes(out, at, b"this was told before\n"),
-        47 => put_bytes(out, at, b"a point or a reading is missing\n"),
-        48 => put_bytes(out, at, b"the text is longer than 65536 bytes\n"),
-        49 => put_bytes(out, at, b"this input is not above the one before\n"),
-        50 => put_bytes(out, at, b"two cycles are over 10000 apart here\n"),
-        _ => at,
-    }
+    let said: &[u8] = match number {
+        41 => b"no line tells points and cycles\n",
+        42 => b"this line is not understood\n",
+        43 => b"3 to 11 points and 1 to 10 cycles\n",
+        44 => b"no such point or cycle or stroke here\n",
+        45 => b"this number is beyond its limits\n",
+        46 => b"this was told before\n",
+        47 => b"a point or a reading is missing\n",
+        48 => b"the text is longer than 65536 bytes\n",
+        49 => b"this input is not above the one before\n",
+        50 => b"two cycles are over 10000 apart here\n",
+        _ => b"",
+    };
+    page.put_bytes(said);
 }
 
 // ---- what more is told, each on a line
-fn put_word(out: &mut [u8; 831], at: usize, k: usize, end: &[u8]) -> usize
-    requires { length out.old ≡ 831 }
-    ensures { Put out.old at (S.word_name ++ (32 ∷ (decimal k ++ end.now))) out.new result }
+#[tactic(auto, using(plain::specs::KeptLaws::kept_twice))]
+fn put_word(page: &mut Page, k: usize, end: &[u8])
+    ensures { page.new ≡ kept (page.old ++ (S.word_name ++ (32 ∷ (decimal k ++ end.now)))) }
 {
-    let word = put_bytes(out, at, b"word ");
-    let told = put_decimal(out, word, k as u64);
-    put_bytes(out, told, end)
+    page.put_bytes(b"word ");
+    page.put_decimal(k as u64);
+    page.put_bytes(end);
 }
 
-fn put_earlier(out: &mut [u8; 831], at: usize, noun: &[u8], label: usize) -> usize
-    requires { length out.old ≡ 831 }
-    ensures { Put out.old at (S.detail_line noun.now (Detail.Earlier label)) out.new result }
+#[tactic(auto, using(plain::specs::KeptLaws::kept_twice), unfolding(spoken::specs::Said::spaced))]
+fn put_earlier(page: &mut Page, noun: &[u8], label: usize)
+    ensures { page.new ≡ kept (page.old ++ S.detail_line noun.now (Detail.Earlier label)) }
 {
-    let named = put_bytes(out, at, noun);
-    let space = put_byte(out, named, b' ');
-    let told = put_decimal(out, space, label as u64);
-    put_bytes(out, told, b" told it first\n")
+    page.put_bytes(noun);
+    page.put_byte(b' ');
+    page.put_decimal(label as u64);
+    page.put_bytes(b" told it first\n");
 }
 
-fn put_input(out: &mut [u8; 831], at: usize, i: usize) -> usize
-    requires { length out.old ≡ 831 }
-    ensures { Put out.old at (S.detail_line S.line_name (Detail.Input i)) out.new result }
+#[tactic(auto, using(plain::specs::KeptLaws::kept_twice), unfolding(spoken::specs::Said::spaced))]
+fn put_input(page: &mut Page, i: usize)
+    ensures { page.new ≡ kept (page.old ++ S.detail_line S.line_name (Detail.Input i)) }
 {
-    let point = put_bytes(out, at, b"point ");
-    let told = put_decimal(out, point, i as u64);
-    put_bytes(out, told, b" is missing\n")
+    page.put_bytes(b"point ");
+    page.put_decimal(i as u64);
+    page.put_bytes(b" is missing\n");
 }
 
-fn put_reading(out: &mut [u8; 831], at: usize, s: usize, c: usize, i: usize) -> usize
-    requires { length out.old ≡ 831 }
-    ensures { Put out.old at (S.detail_line S.line_name (Detail.Reading s c i)) out.new result }
+#[tactic(auto, using(plain::specs::KeptLaws::kept_twice, crate::specs::SentenceLaws::reading_missing))]
+fn put_reading(page: &mut Page, s: usize, c: usize, i: usize)
+    ensures { page.new ≡ kept (page.old ++ S.detail_line S.line_name (Detail.Reading s c i)) }
 {
-    let named = spoken::put_reading_place(out, at, s, c, i);
-    put_bytes(out, named, b" is missing\n")
+    spoken::put_reading_place(page, s, c, i);
+    page.put_bytes(b" is missing\n");
 }
 
-fn put_apart(out: &mut [u8; 831], at: usize, noun: &[u8], high: usize, low: usize) -> usize
-    requires { length out.old ≡ 831 }
-    ensures { Put out.old at (S.detail_line noun.now (Detail.Apart high low)) out.new result }
+fn put_apart(page: &mut Page, noun: &[u8], high: usize, low: usize)
+    ensures { page.new ≡ kept (page.old ++ S.detail_line noun.now (Detail.Apart high low)) }
 {
-    let named = put_bytes(out, at, noun);
-    let several = put_bytes(out, named, b"s ");
-    let first = put_decimal(out, several, high as u64);
-    let and = put_bytes(out, first, b" and ");
-    let second = put_decimal(out, and, low as u64);
-    put_bytes(out, second, b" lie apart\n")
+    page.put_bytes(noun);
+    page.put_bytes(b"s ");
+    page.put_decimal(high as u64);
+    page.put_bytes(b" and ");
+    page.put_decimal(low as u64);
+    page.put_bytes(b" lie apart\n");
 }
 
-// What more is told of a refusal, behind the first `at` bytes of a lent array; `noun` names what the labels count.
-pub fn put_detail(out: &mut [u8; 831], at: usize, noun: &[u8], d: Detail) -> usize
-    requires { length out.old ≡ 831 }
-    ensures { Put out.old at (S.detail_line noun.now d) out.new result }
+// What more is told of a refusal; `noun` names what the labels count.
+#[tactic(auto, unfolding(spoken::specs::Said::spaced))]
+pub fn put_detail(page: &mut Page, noun: &[u8], d: Detail)
+    ensures { page.new ≡ kept (page.old ++ S.detail_line noun.now d) }
 {
     match d {
-        Detail::Nothing => at,
-        Detail::Word { k } => put_word(out, at, k, b" is not understood\n"),
-        Detail::NoWord { k } => put_word(out, at, k, b" is missing\n"),
-        Detail::Earlier { label } => put_earlier(out, at, noun, label),
-        Detail::Input { index } => put_input(out, at, index),
+        Detail::Nothing => page.put_bytes(b""),
+        Detail::Word { k } => put_word(page, k, b" is not understood\n"),
+        Detail::NoWord { k } => put_word(page, k, b" is missing\n"),
+        Detail::Earlier { label } => put_earlier(page, noun, label),
+        Detail::Input { index } => put_input(page, index),
         Detail::Reading {
             stroke,
             cycle,
             index,
-        } => put_reading(out, at, stroke, cycle, index),
-        Detail::Apart { high, low } => put_apart(out, at, noun, high, low),
+        } => put_reading(page, stroke, cycle, index),
+        Detail::Apart { high, low } => put_apart(page, noun, high, low),
     }
 }
 
-fn put_refusal(out: &mut [u8; 831], number: u8, line: usize, d: Detail) -> usize
-    requires { length out.old ≡ 831 }
-    ensures { Put out.old 0 (S.refusal number line d) out.new result }
+#[tactic(auto, using(plain::specs::KeptLaws::kept_twice))]
+fn put_refusal(page: &mut Page, number: u8, line: usize, d: Detail)
+    ensures { page.new ≡ kept (page.old ++ S.refusal number line d) }
 {
-    let numbered = plain::put_number(out, 0, number);
-    let word = put_bytes(out, numbered, b" line ");
-    let placed = put_decimal(out, word, line as u64);
-    let told = put_byte(out, placed, b'\n');
-    let said = put_sentence(out, told, number);
-    put_detail(out, said, b"line", d)
+    page.put_number(number);
+    page.put_bytes(b" line ");
+    page.put_decimal(line as u64);
+    page.put_byte(b'\n');
+    put_sentence(page, number);
+    put_detail(page, b"line", d);
 }
 
 // The lines that tell a refusal, at the front of a lent buffer: two, and one more where more is told.
@@ -115,7 +114,7 @@ pub fn refusal(number: u8, line: usize, d: Detail, out: &mut [u8]) -> Printed
     ensures answer { result ≡ P.printed (S.refusal number line d) out.old }
     ensures after { out.new ≡ P.buffer_after (S.refusal number line d) out.old }
 {
-    let mut told = [0u8; 831];
-    let len = put_refusal(&mut told, number, line, d);
-    plain::print(&told[..len], out)
+    let mut page = Page::new();
+    put_refusal(&mut page, number, line, d);
+    plain::print(page.bytes(), out)
 }

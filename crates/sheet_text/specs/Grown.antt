@@ -1,7 +1,7 @@
 -- The texts to which the lines of a run are put. Method.
-use Rattle.std.specs.Prelude.{◌≡◌, List, ◌∷◌, ◌++◌, ℕ, ◌≤◌, length, take}
+use Rattle.std.specs.Prelude.{◌≡◌, List, ◌∷◌, ◌++◌, ℕ}
 use Rattle.plain.specs.Digits.{fraction, percent}
-use Rattle.plain.specs.Plain.{space, longest}
+use Rattle.plain.specs.Plain.{space, kept}
 use Rattle.run.specs.declared.Run.{Run}
 use Rattle.due.specs.Due.{Due}
 use Rattle.due.specs.declared.Answer.{Answer}
@@ -17,10 +17,8 @@ shown_line i s = name i ++ told s.number (fraction s.index ++ (space ∷ percent
 abbrev pub ruled_line : ℕ → Ruled → List ℕ
 ruled_line number l = line_word ++ told number (fraction l.slope ++ (space ∷ fraction l.offset))
 
--- the first k bytes of p are the sheet of the run r
-pub record RunText (r : Run) (p : List ℕ) (k : ℕ) : Type 0 where
+-- the sheet of the run r is put behind t on a page, on which p stands then
+pub record RunText (r : Run) (t p : List ℕ) : Type 0 where
   pub answers : Index → Answer
   pub due : (i : Index) → Due i r (answers i)
-  pub is : take k p ≡ lines r.m r.n answers
-  pub most : k ≤ longest
-  pub long : length p ≡ longest
+  pub is : p ≡ kept (t ++ lines r.m r.n answers)

@@ -1,21 +1,22 @@
 -- Laws of a sheet: its lines are the parts that a text grows by, and it fits a text.
-use Rattle.std.specs.Prelude.{◌≡◌, refl, Bool, true, false, cond, List, [], ◌∷◌, ◌++◌, ℕ, ◌+◌, ◌<◌, ltb, ℤ, length, take, drop}
-use Rattle.std.proofs.Common.{sym, ap, ap₂, subst, ◌∙◌, arith, eq-eqb, ne_eqb, ltb-true, ltb-false, take_all}
+use Rattle.std.specs.Prelude.{◌≡◌, refl, Bool, true, false, cond, List, [], ◌∷◌, ◌++◌, ℕ, ◌+◌, ◌<◌, ltb, ℤ, length, drop}
+use Rattle.std.proofs.Common.{sym, ap, ap₂, subst, ◌∙◌, arith, eq-eqb, ne_eqb, ltb-true, ltb-false}
 use Rattle.plain.specs.Digits.{digit, decimal}
 use Rattle.plain.specs.DigitLaws.{decimal_one}
-use Rattle.plain.specs.Plain.{space, line_feed, refused_word, at_word, refused_line, longest, printed, buffer_after}
-use Rattle.plain.specs.Grown.{grown, Put}
+use Rattle.plain.specs.Plain.{space, line_feed, refused_word, at_word, refused_line, printed, buffer_after, kept}
+use Rattle.plain.specs.KeptLaws.{kept_two, kept_whole}
 use Rattle.plain.specs.Most.{fits_refused}
 use Rattle.plain.specs.declared.Printed.{Printed}
 use Rattle.run.specs.Run.{lent}
 use Rattle.run.specs.declared.Run.{Run}
 use Rattle.reader.specs.Into.{ReadInto, Opening}
+use Rattle.reader.specs.Meaning.{meaning}
 use Rattle.reader.specs.declared.Answer as meant
 use Rattle.reader.specs.declared.Taken.{Taken}
 use Rattle.due.specs.declared.Answer.{Answer}
 use Rattle.due.specs.declared.Index.{Index}
 use Rattle.due.specs.declared.Index.TheVariants as index
-use Rattle.sheet_text.specs.Sheet.{told, lines, SheetDue, refused, accepted, PrintDue, fits, short}
+use Rattle.sheet_text.specs.Sheet.{head_line, told, index_line, last_line, lines, SheetDue, refused, accepted, PrintDue, fits, short}
 use Rattle.sheet_text.specs.Grown.{RunText}
 use Rattle.sheet_text.specs.Longest.{fits_lines}
 
@@ -51,19 +52,44 @@ module _ (a b c d e f g h i : Answer) where
   each P p q r s t u v w x index.Lhr = x
 
 -- eleven lines that are put one behind the other
-module _ (m n : ℕ) (A : Index → Answer) {o p : List ℕ} {k : ℕ} (w : Put o 0 (lines m n A) p k) where
-  pub lines_put : take k p ≡ lines m n A
-  lines_put = w.is ∙ take_all longest (lines m n A) (fits_lines m n A)
+module _ (m n : ℕ) (A : Index → Answer) where
+  abbrev line : Index → List ℕ
+  line i = index_line i (A i)
 
--- ---- the sheet of a byte string that was read
-module _ {s : List ℕ} {x y : List ℤ} {t : Taken} (e : ReadInto s x y t) where
-  pub sheet_refused : {l : List ℕ} → (t.number ≡ 0 → ⊥) → l ≡ grown [] (refused_line t.number t.place) → SheetDue s l
-  sheet_refused {l} n f = refused (λ z. n (e.number ∙ z)) (f ∙ take_all longest (refused_line t.number t.place) (fits_refused t.number t.place) ∙ ap₂ refused_line e.number e.place)
+  pub lines_put : (t : List ℕ) {a b c d e f g h i j p : List ℕ}
+      → a ≡ kept (t ++ head_line m n)
+      → b ≡ kept (a ++ line index.Terminal)
+      → c ≡ kept (b ++ line index.Shifted)
+      → d ≡ kept (c ++ line index.Independent)
+      → e ≡ kept (d ++ line index.Zero)
+      → f ≡ kept (e ++ line index.Front)
+      → g ≡ kept (f ++ line index.Hysteresis)
+      → h ≡ kept (g ++ line index.Repeatability)
+      → i ≡ kept (h ++ line index.Lh)
+      → j ≡ kept (i ++ line index.Lhr)
+      → p ≡ kept (j ++ last_line (A index.Lhr)) → p ≡ kept (t ++ lines m n A)
+  lines_put t {a} {b} {c} {d} {e} {f} {g} {h} {i} q₀ q₁ q₂ q₃ q₄ q₅ q₆ q₇ q₈ q₉ q₁₀ =
+      kept_two t (head_line m n) _ q₀
+      (kept_two a (line index.Terminal) _ q₁
+      (kept_two b (line index.Shifted) _ q₂
+      (kept_two c (line index.Independent) _ q₃
+      (kept_two d (line index.Zero) _ q₄
+      (kept_two e (line index.Front) _ q₅
+      (kept_two f (line index.Hysteresis) _ q₆
+      (kept_two g (line index.Repeatability) _ q₇
+      (kept_two h (line index.Lh) _ q₈
+      (kept_two i (line index.Lhr) _ q₉ q₁₀)))))))))
 
-  pub sheet_accepted : (p : List ℕ) (k : ℕ) → t.number ≡ 0 → RunText (lent t.sizes x y) p k → SheetDue s (take k p)
-  sheet_accepted p k z f =
-      let g = subst (λ (r : Run). RunText r p k) (sym (e.run z)) f in
-      accepted (sym e.number ∙ z) g.answers g.due g.is
+-- ---- the sheet of a byte string that was read, on a page that was empty
+module _ {s : List ℕ} {x y : List ℤ} {t : Taken} (e : ReadInto s x y t) {l p : List ℕ} (empty : l ≡ []) where
+  pub sheet_refused : (t.number ≡ 0 → ⊥) → p ≡ kept (l ++ refused_line t.number t.place) → SheetDue s p
+  sheet_refused n f = refused (λ z. n (e.number ∙ z)) (kept_whole empty f (fits_refused t.number t.place) ∙ ap₂ refused_line e.number e.place)
+
+  pub sheet_accepted : t.number ≡ 0 → RunText (lent t.sizes x y) l p → SheetDue s p
+  sheet_accepted z f =
+      let g = subst (λ (r : Run). RunText r l p) (sym (e.run z)) f in
+      let r = (meaning s).run in
+      accepted (sym e.number ∙ z) g.answers g.due (kept_whole empty g.is (fits_lines r.m r.n g.answers))
 
 -- ---- the sheet of a byte string that is refused at its opening
 pub sheet_unopened : {s : List ℕ} {t : Taken} → Opening s t → (t.number ≡ 0 → ⊥) → SheetDue s (refused_line t.number 0)

@@ -1,10 +1,9 @@
 // The sheet of a run file, as bytes.
 #![tactic(auto)]
 
-ghost use Rattle.std.specs.Prelude.{◌∷◌, ◌++◌, ◌≡◌, ◌<◌, ◌≤◌, length, take};
+ghost use Rattle.std.specs.Prelude.{[], ◌∷◌, ◌++◌, ◌≡◌, ◌<◌};
 ghost use Rattle.plain.specs.Digits.{fraction, percent};
-ghost use Rattle.plain.specs.Plain.{space, refused_line, printed, buffer_after};
-ghost use Rattle.plain.specs.Grown.{Put};
+ghost use Rattle.plain.specs.Plain.{space, refused_line, printed, buffer_after, kept};
 ghost use Rattle.sheet_text.specs.Sheet.{name, head_line, SheetDue, PrintDue};
 ghost use Rattle.run.specs.Run.{lent};
 ghost use Rattle.run.specs.Checks.{verdict};
@@ -12,124 +11,115 @@ ghost use Rattle.sheet_text.specs.Grown.{shown_line, ruled_line, RunText};
 
 use due::{Index, Ruled, Shown};
 use limits::Sizes;
-use plain::{Printed, put_byte, put_bytes, put_decimal, put_fraction, put_number, put_percent};
+use plain::{Page, Printed};
 
-fn put_name(out: &mut [u8; 831], at: usize, which: Index) -> usize
-    requires { length out.old ≡ 831 }
-    ensures { Put out.old at (name which) out.new result }
+fn put_name(page: &mut Page, which: Index)
+    ensures { page.new ≡ kept (page.old ++ name which) }
 {
     match which {
-        Index::Terminal => put_bytes(out, at, b"terminal"),
-        Index::Shifted => put_bytes(out, at, b"shifted"),
-        Index::Independent => put_bytes(out, at, b"independent"),
-        Index::Zero => put_bytes(out, at, b"zero"),
-        Index::Front => put_bytes(out, at, b"front"),
-        Index::Hysteresis => put_bytes(out, at, b"hysteresis"),
-        Index::Repeatability => put_bytes(out, at, b"repeatability"),
-        Index::Lh => put_bytes(out, at, b"lh"),
-        Index::Lhr => put_bytes(out, at, b"lhr"),
+        Index::Terminal => page.put_bytes(b"terminal"),
+        Index::Shifted => page.put_bytes(b"shifted"),
+        Index::Independent => page.put_bytes(b"independent"),
+        Index::Zero => page.put_bytes(b"zero"),
+        Index::Front => page.put_bytes(b"front"),
+        Index::Hysteresis => page.put_bytes(b"hysteresis"),
+        Index::Repeatability => page.put_bytes(b"repeatability"),
+        Index::Lh => page.put_bytes(b"lh"),
+        Index::Lhr => page.put_bytes(b"lhr"),
     }
 }
 
 // The index and the percent.
-fn put_figures(out: &mut [u8; 831], at: usize, s: Shown) -> usize
-    requires { length out.old ≡ 831 }
-    ensures { Put out.old at (fraction s.index ++ (space ∷ percent s.thousandths)) out.new result }
+#[tactic(auto, using(plain::specs::KeptLaws::kept_twice))]
+fn put_figures(page: &mut Page, s: Shown)
+    ensures { page.new ≡ kept (page.old ++ (fraction s.index ++ (space ∷ percent s.thousandths))) }
 {
-    let index = s.index;
-    let over = put_fraction(out, at, index);
-    let gap = put_byte(out, over, b' ');
-    put_percent(out, gap, s.thousandths)
+    page.put_fraction(s.index);
+    page.put_byte(b' ');
+    page.put_percent(s.thousandths);
 }
 
-fn put_index(out: &mut [u8; 831], at: usize, which: Index, s: Shown) -> usize
-    requires { length out.old ≡ 831 }
-    ensures { Put out.old at (shown_line which s) out.new result }
+#[tactic(auto, using(plain::specs::KeptLaws::kept_twice, crate::specs::SheetLaws::told_figures, crate::specs::SheetLaws::told_refused))]
+fn put_index(page: &mut Page, which: Index, s: Shown)
+    ensures { page.new ≡ kept (page.old ++ shown_line which s) }
 {
-    let named = put_name(out, at, which);
-    let gap = put_byte(out, named, b' ');
-    let number = s.number;
-    if number == 0 {
-        let told = put_figures(out, gap, s);
-        return put_byte(out, told, b'\n');
+    put_name(page, which);
+    page.put_byte(b' ');
+    if s.number == 0 {
+        put_figures(page, s);
+    } else {
+        page.put_number(s.number);
     }
-    let told = put_number(out, gap, number);
-    put_byte(out, told, b'\n')
+    page.put_byte(b'\n');
 }
 
 // The slope and the offset.
-fn put_line(out: &mut [u8; 831], at: usize, l: Ruled) -> usize
-    requires { length out.old ≡ 831 }
-    ensures { Put out.old at (fraction l.slope ++ (space ∷ fraction l.offset)) out.new result }
+#[tactic(auto, using(plain::specs::KeptLaws::kept_twice))]
+fn put_line(page: &mut Page, l: Ruled)
+    ensures { page.new ≡ kept (page.old ++ (fraction l.slope ++ (space ∷ fraction l.offset))) }
 {
-    let slope = l.slope;
-    let offset = l.offset;
-    let over = put_fraction(out, at, slope);
-    let gap = put_byte(out, over, b' ');
-    put_fraction(out, gap, offset)
+    page.put_fraction(l.slope);
+    page.put_byte(b' ');
+    page.put_fraction(l.offset);
 }
 
-fn put_last(out: &mut [u8; 831], at: usize, number: u8, l: Ruled) -> usize
-    requires { length out.old ≡ 831 }
-    ensures { Put out.old at (ruled_line number l) out.new result }
+#[tactic(auto, using(plain::specs::KeptLaws::kept_twice, crate::specs::SheetLaws::told_figures, crate::specs::SheetLaws::told_refused))]
+fn put_last(page: &mut Page, number: u8, l: Ruled)
+    ensures { page.new ≡ kept (page.old ++ ruled_line number l) }
 {
-    let named = put_bytes(out, at, b"line ");
+    page.put_bytes(b"line ");
     if number == 0 {
-        let told = put_line(out, named, l);
-        return put_byte(out, told, b'\n');
+        put_line(page, l);
+    } else {
+        page.put_number(number);
     }
-    let told = put_number(out, named, number);
-    put_byte(out, told, b'\n')
+    page.put_byte(b'\n');
 }
 
-fn put_head(out: &mut [u8; 831], at: usize, m: usize, n: usize) -> usize
-    requires { length out.old ≡ 831 }
-    ensures { Put out.old at (head_line m n) out.new result }
+#[tactic(auto, using(plain::specs::KeptLaws::kept_twice))]
+fn put_head(page: &mut Page, m: usize, n: usize)
+    ensures { page.new ≡ kept (page.old ++ head_line m n) }
 {
-    let one = put_bytes(out, at, b"points ");
-    let points = put_decimal(out, one, m as u64);
-    let two = put_bytes(out, points, b" cycles ");
-    let cycles = put_decimal(out, two, n as u64);
-    put_byte(out, cycles, b'\n')
+    page.put_bytes(b"points ");
+    page.put_decimal(m as u64);
+    page.put_bytes(b" cycles ");
+    page.put_decimal(n as u64);
+    page.put_byte(b'\n');
 }
 
 // The eleven lines of a run that no check refuses.
-fn put_run(out: &mut [u8; 831], z: Sizes, x: &[i64; 11], y: &[i64; 220]) -> usize
-    requires { (length out.old ≡ 831) × ((verdict (lent z x.now y.now)).number ≡ 0) }
-    ensures { RunText (lent z x.now y.now) out.new result }
+fn put_run(page: &mut Page, z: Sizes, x: &[i64; 11], y: &[i64; 220])
+    requires { (verdict (lent z x.now y.now)).number ≡ 0 }
+    ensures { RunText (lent z x.now y.now) page.old page.new }
 {
-    let m = z.m;
-    let n = z.n;
     let q = indices::nine_over(z, x, y);
-    let head = put_head(out, 0, m, n);
-    let terminal = put_index(out, head, Index::Terminal, q.terminal);
-    let shifted = put_index(out, terminal, Index::Shifted, q.shifted);
-    let independent = put_index(out, shifted, Index::Independent, q.independent);
-    let zero = put_index(out, independent, Index::Zero, q.zero);
-    let front = put_index(out, zero, Index::Front, q.front);
-    let hysteresis = put_index(out, front, Index::Hysteresis, q.hysteresis);
-    let repeatability = put_index(out, hysteresis, Index::Repeatability, q.repeatability);
-    let lh = put_index(out, repeatability, Index::Lh, q.lh);
+    put_head(page, z.m, z.n);
+    put_index(page, Index::Terminal, q.terminal);
+    put_index(page, Index::Shifted, q.shifted);
+    put_index(page, Index::Independent, q.independent);
+    put_index(page, Index::Zero, q.zero);
+    put_index(page, Index::Front, q.front);
+    put_index(page, Index::Hysteresis, q.hysteresis);
+    put_index(page, Index::Repeatability, q.repeatability);
+    put_index(page, Index::Lh, q.lh);
     let last = q.lhr;
-    let lhr = put_index(out, lh, Index::Lhr, last);
-    put_last(out, lhr, last.number, q.line)
+    put_index(page, Index::Lhr, last);
+    put_last(page, last.number, q.line);
 }
 
 // The sheet of any byte string: a run that was read needs no second check.
-fn put_file(out: &mut [u8; 831], file: &[u8]) -> usize
-    requires { length out.old ≡ 831 }
-    ensures due { SheetDue file.now (take result out.new) }
-    ensures most { result ≤ 831 }
-    ensures long { length out.new ≡ 831 }
+fn put_file(page: &mut Page, file: &[u8])
+    requires { page.old ≡ [] }
+    ensures { SheetDue file.now page.new }
 {
     let mut x = [0; 11];
     let mut y = [0; 220];
     let t = reader::read_into(file, &mut x, &mut y);
     if t.number != 0 {
-        return plain::put_refused(out, 0, t.number, t.place);
+        page.put_refused(t.number, t.place);
+    } else {
+        put_run(page, t.sizes, &x, &y);
     }
-    let sizes = t.sizes;
-    put_run(out, sizes, &x, &y)
 }
 
 // The line of a file that is refused at its opening, at place 0 by a number of one digit: of 15 bytes, so that such a file waits for no larger array.
@@ -151,7 +141,7 @@ pub fn sheet(file: &[u8], out: &mut [u8]) -> Printed
     if t.number != 0 {
         return print_unopened(t.number, out);
     }
-    let mut b = [0u8; 831];
-    let n = put_file(&mut b, file);
-    plain::print(&b[..n], out)
+    let mut page = Page::new();
+    put_file(&mut page, file);
+    plain::print(page.bytes(), out)
 }

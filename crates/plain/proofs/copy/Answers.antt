@@ -1,16 +1,16 @@
--- `plain::copy` meets its contract. The bytes below i are copied.
-use mathlib.Core.Path.{ap, ◌∙◌}
-use mathlib.Core.List.{List}
-use Prim.Native.Nat.{ℕ, ◌+◌}
-use native.Mathlib.Omega.{arith}
-use lib.ListN.{set, get_or}
-use Rattle.plain.specs.CopyLaws.{copied_more}
+-- `plain::copy` meets its contract: what is copied is what would be stored one by one.
+use Rattle.std.proofs.Common.{◌≡◌, sym, refl, ap, ◌∙◌, ◌++◌, List, ℕ, ◌+◌, ◌-◌, ◌≤◌, length, take, drop, append_assoc, arith}
+use Rattle.std.proofs.lemmas.List.Edits.{sets, sets-eq}
+use borrow.Rule.Slice.PartMut.{put_mid, Post-is}
 use Rattle.plain.proofs.copy.Goals as goal
 
-pub loop-i-preserved : goal.loop-i-preserved
-loop-i-preserved c =
-    let t = c.before in
-    let l = t.before in
-    let a = l.args in
-    let i = l.loop-i.i in
-    (omega (arith, t.loop-i-test.true), ap (λ (x : List ℕ). set x (a.at + i) (get_or a.s.now i 0)) l.loop-i.invariant.1 ∙ copied_more a.out.now a.at a.s.now i t.loop-i-test.true)
+-- a part that is stored whole
+stored : (l s v : List ℕ) (at : ℕ) → at + length s ≤ length l → v ≡ s → put_mid at (at + length s - at) l v ≡ sets l at s
+stored l s v at h e =
+    ap (λ (v : List ℕ). put_mid at (at + length s - at) l v) e
+    ∙ ap (λ (r : List ℕ). take at l ++ (s ++ r)) (Post-is at (at + length s) l (omega arith))
+    ∙ sym (append_assoc (take at l) s (drop (at + length s) l))
+    ∙ sym (sets-eq s l at h)
+
+pub returns : goal.returns
+returns c = (refl, stored c.args.out.now c.args.s.now _ c.args.at c.requires c.copy_from_slice.ensures.after)

@@ -1,8 +1,0 @@
--- `place_text::put_kind` meets its contract: a word and a number.
-use Rattle.plain.specs.GrownLaws.{put_two}
-use Rattle.place_text.specs.Words.{led, put_last}
-use Rattle.place_text.proofs.put_kind.Goals as goal
-
-pub returns : goal.returns
-unfolding led
-returns c = put_two c.put_bytes-word.ensures (put_last c.put_decimal.ensures)
