@@ -19,7 +19,7 @@ use detail::Detail;
 use held::record_at;
 use limits::Sizes;
 use plain::{Page, Printed};
-use record::{Found, Record};
+use record::{Item, Record, Unread};
 
 // ---- the records, numbered
 fn is_close(r: Record) -> bool
@@ -49,7 +49,7 @@ fn pass(s: &[u8], labels: &mut [usize; 231], y: &mut [i64; 220], k: usize, at: u
     ensures { W.Passed s.now k at labels.old y.old labels.new y.new result }
 {
     match record_at(s, at, at == 0) {
-        Found::Item { record, next } => {
+        Ok(Item { record, next }) => {
             detail::mark(labels, y, record, k);
             if is_close(record) {
                 Step {
@@ -65,12 +65,12 @@ fn pass(s: &[u8], labels: &mut [usize; 231], y: &mut [i64; 220], k: usize, at: u
                 }
             }
         }
-        Found::Cut => Step {
+        Err(Unread::Cut) => Step {
             more: 0,
             k: k + behind(at, s.len()),
             at,
         },
-        Found::Unknown => Step {
+        Err(Unread::Unknown) => Step {
             more: 0,
             k: k + 1,
             at,
@@ -158,15 +158,15 @@ fn put_standing(page: &mut Page, s: &[u8], place: usize)
     ensures { page.new ≡ kept (page.old ++ led (S.words_at s.now place)) }
 {
     match record_at(s, place, place == 0) {
-        Found::Item { record, next: _ } => put_record(page, record),
-        Found::Cut => {
+        Ok(item) => put_record(page, item.record),
+        Err(Unread::Cut) => {
             if s.len() <= place {
                 page.put_bytes(b" not there");
             } else {
                 page.put_bytes(b" cut short");
             }
         }
-        Found::Unknown => {
+        Err(Unread::Unknown) => {
             if place < s.len() {
                 put_kind(page, s[place]);
             }
@@ -187,14 +187,14 @@ fn put_head(page: &mut Page, k: usize)
 fn first_told(s: &[u8], place: usize, labels: &[usize; 231]) -> Detail
     ensures { W.FirstTold s.now place labels.now result }
 {
-    match record_at(s, place, false) {
-        Found::Item { record, .. } => match record {
-            Record::Point { .. } | Record::Value { .. } => Detail::Earlier {
-                label: detail::label_of(labels, record),
-            },
-            Record::Opening { .. } | Record::Close => Detail::Nothing,
+    let Ok(Item { record, .. }) = record_at(s, place, false) else {
+        return Detail::Nothing;
+    };
+    match record {
+        Record::Point { .. } | Record::Value { .. } => Detail::Earlier {
+            label: detail::label_of(labels, record),
         },
-        Found::Cut | Found::Unknown => Detail::Nothing,
+        Record::Opening { .. } | Record::Close => Detail::Nothing,
     }
 }
 
