@@ -39,8 +39,8 @@ fn put_read(page: &mut Page, s: &[u8], out: &mut [u8]) {
 fn put_sheet(page: &mut Page, s: &[u8], out: &mut [u8]) {
     let q = sheet_text::sheet(s, out);
     page.put_bytes(b"sheet");
-    page.put_number(q.number as u64);
-    page.put_number(q.len as u64);
+    page.put_number(plain::number(q) as u64);
+    page.put_number(q.unwrap_or(0) as u64);
     page.put_line_end();
     page.put_hex(out);
 }

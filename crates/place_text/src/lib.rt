@@ -18,7 +18,7 @@ ghost use Rattle.place_text.specs.Told.{Means, OfRecord, OfPoint};
 use detail::Detail;
 use held::record_at;
 use limits::Sizes;
-use plain::{Page, Printed};
+use plain::{Page, TooShort};
 use record::{Item, Record, Unread};
 
 // ---- the records, numbered
@@ -289,8 +289,8 @@ fn put_place(page: &mut Page, s: &[u8])
 }
 
 // Which record the place of a refused file means, at the front of a lent buffer.
-pub fn place(file: &[u8], out: &mut [u8]) -> Printed
-    ensures answer { result ≡ P.printed (S.place_of file.now) out.old }
+pub fn place(file: &[u8], out: &mut [u8]) -> Result<usize, TooShort>
+    ensures answer { P.as_printed result ≡ P.printed (S.place_of file.now) out.old }
     ensures after { out.new ≡ P.buffer_after (S.place_of file.now) out.old }
 {
     let mut page = Page::new();

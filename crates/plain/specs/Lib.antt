@@ -3,3 +3,4 @@ pub mod Plain
 pub mod KeptLaws
 pub mod DigitLaws
 pub mod Most
+pub mod Once

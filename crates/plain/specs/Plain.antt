@@ -1,7 +1,7 @@
 -- What programs print in one way: the refusal line, and a text at the front of a lent buffer (the paper, "In what any program prints"). Definitions only.
-use Rattle.std.specs.Prelude.{cond, List, [], ◌∷◌, ◌++◌, ℕ, ltb, length, take, drop}
+use Rattle.std.specs.Prelude.{cond, List, [], ◌∷◌, ◌++◌, ℕ, ltb, length, take, drop, Result, Ok, Err}
 use Rattle.plain.specs.Digits.{decimal}
-use Rattle.plain.specs.declared.Printed.{Printed}
+use Rattle.plain.specs.declared.TooShort.{TooShort}
 
 -- a space, and a line feed
 abbrev pub space : ℕ
@@ -29,6 +29,16 @@ longest = 831
 -- what a page keeps of bytes that are put on it: the first 831
 unfoldable pub kept : List ℕ → List ℕ
 kept l = take longest l
+
+-- the paper's number, and the length of what is printed
+pub record Printed : Type 0 where
+  pub number : ℕ
+  pub len : ℕ
+
+-- what an answer says in the paper's numbers: 0 and the length; or 14 and 0, where the lent buffer is too short
+abbrev pub as_printed : Result ℕ TooShort → Printed
+as_printed (Ok n) = record { number = 0; len = n }
+as_printed (Err e) = record { number = 14; len = 0 }
 
 -- what putting t at the front of a lent buffer answers: 14 where that is too short
 abbrev pub printed : List ℕ → List ℕ → Printed

@@ -5,17 +5,14 @@ ghost use Rattle.std.specs.Prelude.{◌∷◌, [], ◌++◌, ◌≡◌, ◌+◌,
 ghost use Rattle.std.proofs.lemmas.List.Edits.{sets};
 ghost use Rattle.plain.specs.Digits.{decimal, signed, fraction, percent};
 ghost use Rattle.plain.specs.Digits as D;
-ghost use Rattle.plain.specs.Plain.{refused_word, refused_line, printed, buffer_after, kept};
+ghost use Rattle.plain.specs.Plain.{refused_word, refused_line, as_printed, printed, buffer_after, kept};
 
 use exact::Fraction;
 use std::marker::Model;
 
-// 0 and the length of what is printed; or 14 and 0, where the lent buffer is too short.
-#[derive(Clone, Copy)]
-pub struct Printed {
-    pub number: u8,
-    pub len: usize,
-}
+// The lent buffer is too short: 14 of the paper's table.
+#[derive(Clone, Copy, PartialEq, Eq)]
+pub struct TooShort;
 
 // Copies lent bytes to a place of a buffer that has room for them, and tells where they end.
 pub fn copy(s: &[u8], out: &mut [u8], at: usize) -> usize
@@ -27,16 +24,25 @@ pub fn copy(s: &[u8], out: &mut [u8], at: usize) -> usize
     end
 }
 
-// Puts lent bytes at the front of a lent buffer, if they fit.
-pub fn print(s: &[u8], out: &mut [u8]) -> Printed
-    ensures answer { result ≡ printed s.now out.old }
+// Puts lent bytes at the front of a lent buffer, if they fit, and answers their length.
+pub fn print(s: &[u8], out: &mut [u8]) -> Result<usize, TooShort>
+    ensures answer { as_printed result ≡ printed s.now out.old }
     ensures after { out.new ≡ buffer_after s.now out.old }
 {
     if out.len() < s.len() {
-        return Printed { number: 14, len: 0 };
+        return Err(TooShort);
     }
-    let len = copy(s, out, 0);
-    Printed { number: 0, len }
+    Ok(copy(s, out, 0))
+}
+
+// The paper's number of what was printed.
+pub fn number(q: Result<usize, TooShort>) -> u8
+    ensures { result ≡ (as_printed q).number }
+{
+    match q {
+        Ok(_) => 0,
+        Err(TooShort) => 14,
+    }
 }
 
 fn digit(v: u64) -> u8

@@ -2,7 +2,7 @@
 use Rattle.std.specs.Prelude.{◌≡◌, refl, List, [], ◌∷◌, ◌++◌, ◌↔◌, ℕ, ◌<◌, ◌≤◌, length, drop}
 use Rattle.std.proofs.Common.{sym, ap, ◌∙◌, subst, inl, inr, arith}
 use Rattle.std.proofs.Math.Decide.{dec_lt}
-use Rattle.plain.specs.declared.Printed.{Printed}
+use Rattle.plain.specs.Plain.{Printed}
 use Rattle.run.specs.Checks as C
 use Rattle.run.specs.Checks.{verdict}
 use Rattle.run.specs.Checked.{verdict_ind, verdict_most}

@@ -4,7 +4,7 @@
 -- What it does not say: what a program reads and prints. No contract can; the comparison with the second program holds it.
 use Rattle.std.specs.Prelude.{◌≡◌, List, [], ◌∷◌, ◌++◌, ◌⊎◌, ◌↔◌, ℕ, ◌<◌, ◌≤◌, T, length, drop}
 use Rattle.exact.specs.Value.{nought}
-use Rattle.plain.specs.declared.Printed.{Printed}
+use Rattle.plain.specs.Plain.{Printed}
 use Rattle.run.specs.Run.{zeros}
 use Rattle.run.specs.Checks as C
 use Rattle.run.specs.Checks.{verdict}

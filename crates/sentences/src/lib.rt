@@ -8,7 +8,7 @@ ghost use Rattle.plain.specs.Plain.{kept};
 ghost use Rattle.sentences.specs.Sentences as S;
 
 use detail::Detail;
-use plain::{Page, Printed};
+use plain::{Page, TooShort};
 
 fn put_sentence(page: &mut Page, number: u8)
     ensures { page.new ≡ kept (page.old ++ S.sentence number) }
@@ -110,8 +110,8 @@ fn put_refusal(page: &mut Page, number: u8, line: usize, d: Detail)
 }
 
 // The lines that tell a refusal, at the front of a lent buffer: two, and one more where more is told.
-pub fn refusal(number: u8, line: usize, d: Detail, out: &mut [u8]) -> Printed
-    ensures answer { result ≡ P.printed (S.refusal number line d) out.old }
+pub fn refusal(number: u8, line: usize, d: Detail, out: &mut [u8]) -> Result<usize, TooShort>
+    ensures answer { P.as_printed result ≡ P.printed (S.refusal number line d) out.old }
     ensures after { out.new ≡ P.buffer_after (S.refusal number line d) out.old }
 {
     let mut page = Page::new();

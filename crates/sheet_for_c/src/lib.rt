@@ -9,5 +9,5 @@ pub extern "C" fn wheattunic_sheet(file: &[u8], out: &mut [u8]) -> usize
     ensures { Handed file.now out.old out.new result }
 {
     let q = sheet_text::sheet(file, out);
-    q.len
+    q.unwrap_or(0)
 }

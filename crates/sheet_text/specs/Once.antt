@@ -1,8 +1,7 @@
 -- Only one answer fits the statement of `sheet`, and only the first 1,837 bytes of a file count.
 use Rattle.std.specs.Prelude.{◌≡◌, List, ◌++◌, ℕ, ◌<◌, ◌≤◌, length, take, drop}
 use Rattle.std.proofs.Common.{sym, ap, ◌∙◌, subst, arith}
-use Rattle.plain.specs.Plain.{refused_line}
-use Rattle.plain.specs.declared.Printed.{Printed}
+use Rattle.plain.specs.Plain.{refused_line, Printed}
 use Rattle.reader.specs.Meaning.{as_answer, meaning}
 use Rattle.reader.specs.declared.Answer.{Answer}
 use Rattle.runfile.specs.FirstPart.{first_part}

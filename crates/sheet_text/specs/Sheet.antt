@@ -1,8 +1,7 @@
 -- The sheet of a byte string given as a run file (the paper, "Figures to meet", the printed sheet; requests C-11 and C-13). Definitions only.
 use Rattle.std.specs.Prelude.{◌≡◌, cond, List, [], ◌∷◌, ◌++◌, ℕ, ◌<◌, ◌≤◌, eqb, length, drop}
 use Rattle.plain.specs.Digits.{decimal, fraction, percent}
-use Rattle.plain.specs.Plain.{space, line_feed, refused_word, refused_line}
-use Rattle.plain.specs.declared.Printed.{Printed}
+use Rattle.plain.specs.Plain.{space, line_feed, refused_word, refused_line, Printed}
 use Rattle.reader.specs.Meaning.{meaning}
 use Rattle.due.specs.Due.{Due}
 use Rattle.due.specs.declared.Answer.{Answer}

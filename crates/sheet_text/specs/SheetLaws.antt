@@ -3,10 +3,9 @@ use Rattle.std.specs.Prelude.{◌≡◌, refl, Bool, true, false, cond, List, []
 use Rattle.std.proofs.Common.{sym, ap, ap₂, subst, ◌∙◌, arith, eq-eqb, ne_eqb, ltb-true, ltb-false}
 use Rattle.plain.specs.Digits.{digit, decimal}
 use Rattle.plain.specs.DigitLaws.{decimal_one}
-use Rattle.plain.specs.Plain.{space, line_feed, refused_word, at_word, refused_line, printed, buffer_after, kept}
+use Rattle.plain.specs.Plain.{space, line_feed, refused_word, at_word, refused_line, Printed, printed, buffer_after, kept}
 use Rattle.plain.specs.KeptLaws.{kept_two, kept_whole}
 use Rattle.plain.specs.Most.{fits_refused}
-use Rattle.plain.specs.declared.Printed.{Printed}
 use Rattle.run.specs.Run.{lent}
 use Rattle.run.specs.declared.Run.{Run}
 use Rattle.reader.specs.Into.{ReadInto, Opening}

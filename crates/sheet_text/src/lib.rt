@@ -3,7 +3,7 @@
 
 ghost use Rattle.std.specs.Prelude.{[], ◌∷◌, ◌++◌, ◌≡◌, ◌<◌};
 ghost use Rattle.plain.specs.Digits.{fraction, percent};
-ghost use Rattle.plain.specs.Plain.{space, refused_line, printed, buffer_after, kept};
+ghost use Rattle.plain.specs.Plain.{space, refused_line, as_printed, printed, buffer_after, kept};
 ghost use Rattle.sheet_text.specs.Sheet.{name, head_line, SheetDue, PrintDue};
 ghost use Rattle.run.specs.Run.{lent};
 ghost use Rattle.run.specs.Checks.{verdict};
@@ -11,7 +11,7 @@ ghost use Rattle.sheet_text.specs.Grown.{shown_line, ruled_line, RunText};
 
 use due::{Index, Ruled, Shown};
 use limits::Sizes;
-use plain::{Page, Printed};
+use plain::{Page, TooShort};
 
 fn put_name(page: &mut Page, which: Index)
     ensures { page.new ≡ kept (page.old ++ name which) }
@@ -123,9 +123,9 @@ fn put_file(page: &mut Page, file: &[u8])
 }
 
 // The line of a file that is refused at its opening, at place 0 by a number of one digit: of 15 bytes, so that such a file waits for no larger array.
-fn print_unopened(number: usize, out: &mut [u8]) -> Printed
+fn print_unopened(number: usize, out: &mut [u8]) -> Result<usize, TooShort>
     requires { number < 10 }
-    ensures answer { result ≡ printed (refused_line number 0) out.old }
+    ensures answer { as_printed result ≡ printed (refused_line number 0) out.old }
     ensures after { out.new ≡ buffer_after (refused_line number 0) out.old }
 {
     let mut line = *b"refused 0 at 0\n";
@@ -134,8 +134,8 @@ fn print_unopened(number: usize, out: &mut [u8]) -> Printed
 }
 
 // The sheet of any byte string, at the front of a lent buffer. The opening is asked first, since most of the time of a short refusal would go into the zeros of the arrays.
-pub fn sheet(file: &[u8], out: &mut [u8]) -> Printed
-    ensures { PrintDue file.now out.old out.new result }
+pub fn sheet(file: &[u8], out: &mut [u8]) -> Result<usize, TooShort>
+    ensures { PrintDue file.now out.old out.new (as_printed result) }
 {
     let t = reader::opening(file);
     if t.number != 0 {

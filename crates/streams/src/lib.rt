@@ -3,7 +3,7 @@
 
 ghost use Rattle.std.specs.Prelude.{◌<◌, ◌^◌};
 
-use plain::Printed;
+use plain::TooShort;
 
 // The numbers under which a process has its standard streams.
 const STDIN_FILENO: i32 = 0;
@@ -28,17 +28,20 @@ pub fn tell(text: &[u8]) {
 }
 
 // Prints what `answer` puts into a buffer of MOST bytes for the first READ bytes of standard input.
-pub fn print_answer<const READ: usize, const MOST: usize, F: Fn(&[u8], &mut [u8]) -> Printed>(
-    answer: F,
-)
+pub fn print_answer<
+    const READ: usize,
+    const MOST: usize,
+    F: Fn(&[u8], &mut [u8]) -> Result<usize, TooShort>,
+>(answer: F)
     requires callable { F.IsAlwaysCallable answer }
     requires read_fits { READ < 2 ^ 63 }
     requires most_fits { MOST < 2 ^ 63 }
 {
     let mut file = [0u8; READ];
     let mut out = [0u8; MOST];
-    let q = answer(read(&mut file), &mut out);
-    if let Some(text) = out.get(..q.len) {
+    if let Ok(len) = answer(read(&mut file), &mut out)
+        && let Some(text) = out.get(..len)
+    {
         print(text);
     }
 }

@@ -7,7 +7,7 @@
 // Of each answer the numbers are printed on a line, then the whole buffer, then a line feed.
 #![tactic(auto)]
 
-use plain::Printed;
+use plain::TooShort;
 use trial::Page;
 
 fn put_buffer(page: &mut Page, out: &[u8]) {
@@ -16,10 +16,10 @@ fn put_buffer(page: &mut Page, out: &[u8]) {
     page.put_line_end();
 }
 
-fn put_printed(page: &mut Page, name: &[u8], q: Printed, out: &[u8]) {
+fn put_printed(page: &mut Page, name: &[u8], q: Result<usize, TooShort>, out: &[u8]) {
     page.put_bytes(name);
-    page.put_number(q.number as u64);
-    page.put_number(q.len as u64);
+    page.put_number(plain::number(q) as u64);
+    page.put_number(q.unwrap_or(0) as u64);
     put_buffer(page, out);
 }
 

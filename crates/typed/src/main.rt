@@ -5,8 +5,9 @@
 fn tell(text: &[u8], number: u8, line: usize) {
     let mut out = [0; 120];
     let detail = text_detail::of_text(text);
-    let q = sentences::refusal(number, line, detail, &mut out);
-    if let Some(told) = out.get(..q.len) {
+    if let Ok(len) = sentences::refusal(number, line, detail, &mut out)
+        && let Some(told) = out.get(..len)
+    {
         streams::tell(told);
     }
 }

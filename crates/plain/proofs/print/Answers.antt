@@ -9,8 +9,6 @@ use Rattle.plain.proofs.print.Goals as goal
 
 pub returns : goal.returns
 returns c =
-    let p = c.before.before in
-    let e = p.before.before in
-    let a = e.args in
-    let t = le-ltb (length a.out.now) (length a.s.now) e.if-out-s.false in
-    record { answer = simp t (ap (λ (k : ℕ). record { number = 0; len = k }) (p.copy-len.ensures.0 ∙ zero-add (length a.s.now))); after = simp t (p.copy-len.ensures.1 ∙ sets_front a.s.now a.out.now e.if-out-s.false) }
+    let a = c.args in
+    let t = le-ltb (length a.out.now) (length a.s.now) c.if-out-s.false in
+    record { answer = simp t (ap (λ (k : ℕ). record { number = 0; len = k }) (c.copy.ensures.0 ∙ zero-add (length a.s.now))); after = simp t (c.copy.ensures.1 ∙ sets_front a.s.now a.out.now c.if-out-s.false) }
