@@ -96,9 +96,8 @@ fn index_over(which: Index, z: Sizes, x: &[i64; 11], y: &[i64; 220]) -> Answer
     ensures due { Due which (lent z x.now y.now) result }
     ensures told { Told result.index }
 {
-    let v = run::check_over(z, x, y);
-    if v.number != 0 {
-        return due::refuse(v.number, v.place);
+    if let Err(e) = run::check_over(z, x, y) {
+        return due::refuse(e.cause.number(), e.place);
     }
     let g = ground_of(which, z, x, y);
     due::answer_of(g, grounds::span_of(z.m, x))

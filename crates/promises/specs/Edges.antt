@@ -6,9 +6,8 @@ use Rattle.exact.specs.Rounding as rounding
 use Rattle.table.specs.Table.{given}
 use Rattle.run.specs.Places.{rising}
 use Rattle.run.specs.Sample.{filled, cycles, written_out}
-use Rattle.run.specs.Checks.{fine, verdict}
+use Rattle.run.specs.Checks.{Verdict, fine, verdict}
 use Rattle.run.specs.declared.Run.{Run}
-use Rattle.run.specs.declared.Verdict.{Verdict}
 use Rattle.runfile.specs.Witness.{made, small, of_strokes}
 use Rattle.band.specs.Band.{lent}
 use Rattle.band.specs.Admit.{admits}

@@ -3,10 +3,9 @@ use Rattle.std.specs.Prelude.{◌≡◌, refl, List, [], ◌∷◌, ◌++◌, �
 use Rattle.std.proofs.Common.{ap, ◌∙◌, arith}
 use Rattle.whole.specs.Flags.{T-yes}
 use Rattle.table.specs.Table.{given_at, accepted}
-use Rattle.run.specs.Checks.{verdict}
+use Rattle.run.specs.Checks.{Verdict, verdict}
 use Rattle.run.specs.Checked.{verdict_exactly, verdict_fine}
 use Rattle.run.specs.declared.Run.{Run}
-use Rattle.run.specs.declared.Verdict.{Verdict}
 use Rattle.records.specs.Meaning as records
 use Rattle.format.specs.Format as format
 use Rattle.format.specs.Trip.{travelled}

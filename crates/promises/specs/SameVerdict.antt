@@ -9,11 +9,10 @@ use Rattle.table.specs.Table.{accepted, told_or, given}
 use Rattle.table.specs.Rows.{found_if}
 use Rattle.run.specs.Run.{reading, sizes}
 use Rattle.run.specs.Limits.{stroke_in_limits, near_all, stroke_calm, holds, fails_at}
-use Rattle.run.specs.Checks.{as_verdict, verdict}
+use Rattle.run.specs.Checks.{Verdict, as_verdict, verdict}
 use Rattle.run.specs.declared.Run.{Run}
 use Rattle.run.specs.declared.Rule.{Rule}
 use Rattle.run.specs.declared.Rule.TheVariants.{Limits, Rising, Calm}
-use Rattle.run.specs.declared.Verdict.{Verdict}
 use Rattle.whole.specs.Every.{every_same, first_not_same}
 use Rattle.promises.specs.Demand2.{SameWithin}
 

@@ -7,9 +7,8 @@ use Rattle.limits.specs.Limits.{fair}
 use Rattle.run.specs.Run.{sizes}
 use Rattle.run.specs.Laws.{sizes_sized}
 use Rattle.run.specs.Checked.{checked, first_there}
-use Rattle.run.specs.Checks.{verdict}
+use Rattle.run.specs.Checks.{Verdict, verdict}
 use Rattle.run.specs.declared.Run.{Run}
-use Rattle.run.specs.declared.Verdict.{Verdict}
 use Rattle.records.specs.Travel.{trimmed}
 use Rattle.records.specs.Trimmed.{input_kept, reading_kept}
 use Rattle.averages.specs.Averages as averages

@@ -1,40 +1,36 @@
 -- `indices::index_over` meets its contract: the checks of the run come first; then the answer is told of what the index stands on.
 use mathlib.Core.Path.{◌≡◌, sym, ap, ◌∙◌, subst}
-use native.Mathlib.Omega.{arith}
 use Rattle.run.specs.Run.{lent}
-use Rattle.run.specs.Checks.{verdict}
-use Rattle.run.specs.Checked.{checked}
+use Rattle.run.specs.Checks.{Verdict, verdict}
+use Rattle.run.specs.Checked.{checked, refused_verdict, refused_number}
 use Rattle.run.specs.declared.Run.{Run}
-use Rattle.run.specs.declared.Verdict.{Verdict}
 use Prim.Native.Nat.{ℕ}
 use Rattle.due.specs.Due.{refused}
 use Rattle.due.specs.Cases.{no_run, case_due}
 use Rattle.due.specs.Ground.{AnswerBy}
 use Rattle.due.specs.GroundLaws.{ground_answer, ground_told, refused_told}
 use Rattle.grounds.specs.Basis.{spanned, span_is}
-use Rattle.indices.proofs.index_over.Goals.{Else-v-ne0, Start}
+use Rattle.indices.proofs.index_over.Goals.{In_default, Start}
 use Rattle.indices.proofs.index_over.Goals as goal
 
 abbrev run : Start → Run
 run s = lent s.args.z s.args.x.now s.args.y.now
 
 -- no check refuses the run
-fine : (c : Else-v-ne0) → (verdict (run c.before.before.before)).number ≡ 0
-fine c = let k = c in sym (ap (λ (v : Verdict). v.number) k.check_over-v.ensures) ∙ omega (arith, c.if-v-ne0.false)
+fine : (c : In_default) → (verdict (lent c.args.z c.args.x.now c.args.y.now)).number ≡ 0
+fine c = ap (λ (v : Verdict). v.number) (sym c.in_default.ensures)
 
-pub returns-then-v-ne0 : goal.returns-then-v-ne0
-returns-then-v-ne0 c =
-    let t = c in
-    let k = c in
-    let v : k.check_over-v.result ≡ verdict (run (goal.at.returns-then-v-ne0 c).Start) = k.check_over-v.ensures in
-    record { due = case_due (no_run (λ e. t.if-v-ne0.true (ap (λ (v : Verdict). v.number) v ∙ e)) (c.refuse.ensures ∙ ap (λ (v : Verdict). refused v.number v.place) v)); told = refused_told _ _ c.refuse.result c.refuse.ensures }
+pub returns-in-Err : goal.returns-in-Err
+returns-in-Err c =
+    let v = refused_verdict c.in-Err.e c.in-Err.ensures c.number.ensures in
+    record { due = case_due (no_run (refused_number c.in-Err.e c.in-Err.ensures) (c.refuse.ensures ∙ ap (λ (v : Verdict). refused v.number v.place) v)); told = refused_told _ _ c.refuse.result c.refuse.ensures }
 
 pub span_of-requires : goal.span_of-requires
 span_of-requires c =
     let e = c in
     let s = c in
     let a = s.args in
-    spanned a.z a.x.now a.y.now (checked (run (goal.at.span_of-requires c).Start) (fine (goal.at.span_of-requires c).Else-v-ne0))
+    spanned a.z a.x.now a.y.now (checked (run (goal.at.span_of-requires c).Start) (fine (goal.at.span_of-requires c).In_default))
 
 pub returns : goal.returns
 returns c =
