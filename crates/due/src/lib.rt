@@ -60,7 +60,7 @@ pub struct Based {
     pub unit: u64,
 }
 
-// What an index stands on: a line and a width; a width alone, which several lines reach; or a refusal.
+// What an index stands on: a line and a width; a width alone, which several lines reach; or a refusal. Three outcomes of the paper, of which 12 keeps its width: a Result would need a second enum inside.
 #[derive(Clone, Copy)]
 pub enum Ground {
     Line(Based),

@@ -29,14 +29,14 @@ pub fn divisor(a: u64, b: u64) -> u64
     if b == 0 { a } else { divisor(b, a % b) }
 }
 
-// The size of any i64, the smallest among them, whose opposite is no i64.
+// The size of any i64, the smallest among them, whose opposite is no i64. It is `unsigned_abs` under a name of its own, since four crates and two edits know it.
 pub fn size(a: i64) -> u64
     ensures { result ≡ nat_abs a }
 {
     a.unsigned_abs()
 }
 
-// m with the sign of a.
+// m with the sign of a. No method of the library has the case of an m whose opposite is an i64 and itself is none.
 fn with_sign(a: i64, m: u64) -> i64
     requires { m ≤ nat_abs a }
     ensures { result ≡ signed a m }

@@ -32,7 +32,7 @@ pub struct Reach {
     pub q: u64,
 }
 
-// What is found: a line; or only its width, where several lines reach it.
+// What is found: a line; or only its width, where several lines reach it. Neither is an error, so it is no Result.
 #[derive(Clone, Copy)]
 pub enum Plotted {
     Line(Course),
@@ -59,7 +59,7 @@ pub struct Wide {
     pub width: Fraction,
 }
 
-// A line; or only its width; or nothing, where the points are not admitted.
+// A line; or only its width; or nothing, where the points are not admitted. `promises` states of each case what it is in the table (`Enums`).
 #[derive(Clone, Copy)]
 pub enum Drawn {
     Line(Fit),

@@ -1,4 +1,4 @@
--- A law of a list that is copied to a place of another, from the left.
+-- A law of a list that is copied to a place of another, from the left. Nothing cites it any more; it stands because what stood stays (docs/DESIGN-PASS.md).
 use Rattle.std.specs.Prelude.{◌≡◌, List, [], ◌∷◌, ℕ, ◌+◌, ◌<◌, length, take, set, get_or}
 use Rattle.std.proofs.Common.{add-one, arith, length-take-le, take-suc}
 use Rattle.std.proofs.lemmas.List.Edits.{sets}

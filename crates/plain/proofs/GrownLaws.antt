@@ -1,4 +1,4 @@
--- Laws of bytes that are put into an array.
+-- Laws of bytes that are put into an array beside its length (`Grown`). Nothing cites them any more; they stand because what stood stays (docs/DESIGN-PASS.md).
 use Rattle.std.specs.Prelude.{◌≡◌, refl, List, [], ◌∷◌, ◌++◌, ℕ, zero, suc, ◌+◌, ◌<◌, ◌≤◌, length, take, set}
 use Rattle.std.proofs.Common.{sym, ap, ◌∙◌, subst, append_assoc, append-nil, add-one, arith, length-append, length-take, length-set, length-take-le, take_all, take-suc-set}
 use Rattle.std.proofs.lemmas.List.{take-append-le}

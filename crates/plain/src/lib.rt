@@ -51,7 +51,7 @@ fn digit(v: u64) -> u8
     48 + (v % 10) as u8
 }
 
-// Bytes, of which each goes behind those that stand there. What does not fit is dropped, and no sheet needs more room.
+// Bytes, of which each goes behind those that stand there. What does not fit is dropped, and no sheet needs more room. Numbers are put by methods: a `Display` would be no plainer, since `write!` gives a Result at each call and a page never fails.
 #[derive(Drop)]
 pub struct Page {
     bytes: [u8; 831],
