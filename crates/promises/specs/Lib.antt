@@ -38,3 +38,4 @@ pub mod LineLaws
 pub mod PinLaws
 pub mod LimitLaws
 pub mod Certificate
+pub mod OneRefusal
