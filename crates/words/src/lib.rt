@@ -4,6 +4,7 @@
 ghost use Rattle.std.specs.Prelude.{[], ◌∷◌, ◌≡◌, ◌+◌, ◌-◌, ◌<◌, ◌≤◌, T, length, get_or, take, drop};
 ghost use Rattle.words.specs.Words as W;
 ghost use Rattle.words.specs.Words.{lines, words, numeral, value, unsigned, unmarked};
+ghost use Rattle.words.specs.WordLaws.{Begins, Ended};
 
 fn is_blank(b: u8) -> bool
     ensures { result ≡ W.blank b }
@@ -11,23 +12,55 @@ fn is_blank(b: u8) -> bool
     matches!(b, b' ' | b'\t' | b'\r')
 }
 
+// The first place from `at` on where a word begins; the line's end where none does.
+fn skip(line: &[u8], at: usize) -> usize
+    requires { at ≤ length line.now }
+    ensures { Begins line.now at result }
+{
+    match line[at..].iter().position(|b| !is_blank(*b)) {
+        Some(k) => at + k,
+        None => line.len(),
+    }
+}
+
+// The place where the word that begins at `at` ends.
+fn end(line: &[u8], at: usize) -> usize
+    requires { at ≤ length line.now }
+    ensures { Ended line.now at result }
+{
+    match line[at..].iter().position(|b| is_blank(*b)) {
+        Some(k) => at + k,
+        None => line.len(),
+    }
+}
+
 // Word k of a line, counted from 0; of no bytes where there are fewer.
 pub fn word(line: &[u8], k: usize) -> &[u8]
     ensures { result.now ≡ W.word line.now k }
 {
-    line.split(|b| is_blank(*b))
-        .filter(|w| !w.is_empty())
-        .nth(k)
-        .unwrap_or(&[])
+    // from word to word: `split` would make a part of no bytes for each blank, which takes twice the time
+    let mut from = skip(line, 0);
+    for _ in 0..k {
+        if from == line.len() {
+            return &[];
+        }
+        from = skip(line, end(line, from));
+    }
+    &line[from..end(line, from)]
 }
 
 // How many words a line has.
 pub fn count(line: &[u8]) -> usize
     ensures { result ≡ length (words line.now) }
 {
-    line.split(|b| is_blank(*b))
-        .filter(|w| !w.is_empty())
-        .count()
+    let mut from = skip(line, 0);
+    let mut n = 0;
+    // from word to word: no `for` goes by steps of unlike lengths
+    while from < line.len() {
+        from = skip(line, end(line, from));
+        n += 1;
+    }
+    n
 }
 
 pub fn same(a: &[u8], b: &[u8]) -> bool
@@ -102,7 +135,18 @@ pub fn line_end(s: &[u8], at: usize) -> usize
 pub fn line(s: &[u8], k: usize) -> &[u8]
     ensures { result.now ≡ get_or (lines s.now) k [] }
 {
-    s.split(|b| *b == b'\n').nth(k).unwrap_or(&[])
+    // from line to line, as a word is found
+    let mut at = 0;
+    for _passed in 0..k {
+        if at >= s.len() {
+            return &[];
+        }
+        at = line_end(s, at) + 1;
+    }
+    if at >= s.len() {
+        return &[];
+    }
+    &s[at..line_end(s, at)]
 }
 
 // A text without the byte-order mark that may stand in front of it.
