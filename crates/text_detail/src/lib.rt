@@ -128,17 +128,22 @@ fn lies_apart(text: &[u8], h: Said) -> Detail
     }
 }
 
-// Of a text that is answered with this number and line.
+// Of a text that is answered with this number and line. The line is looked for only where it is told of: a text that is too long is not walked to its end.
 fn by_number(text: &[u8], number: usize, line: usize) -> Detail
     requires { given (text_refusals text.now) ≡ given_at number line }
     ensures { result ≡ T.detail_at text.now (given_at number line) }
 {
-    let told = words::line(text, line.saturating_sub(1));
     match number {
-        42 => odd(told),
-        46 => told_before(text, spoken::hear(told)),
+        42 => odd(words::line(text, line.saturating_sub(1))),
+        46 => told_before(
+            text,
+            spoken::hear(words::line(text, line.saturating_sub(1))),
+        ),
         47 => lacks(text),
-        50 => lies_apart(text, spoken::hear(told)),
+        50 => lies_apart(
+            text,
+            spoken::hear(words::line(text, line.saturating_sub(1))),
+        ),
         _ => Detail::Nothing,
     }
 }

@@ -23,15 +23,15 @@ lacks-requires c =
 pub lies_apart-requires : goal.lies_apart-requires
 lies_apart-requires c =
     let e : c.args.number ≡ 50 = omega arith in
-    let h = nth_heard c.args.text.now c.args.line c.saturating_sub.ensures c.line-told.ensures c.hear-in-50.ensures in
+    let h = nth_heard c.args.text.now c.args.line c.saturating_sub-in-50.ensures c.line-in-50.ensures c.hear-in-50.ensures in
     (not_long c.args.text.now c.args.number c.args.line (λ q. omega arith) c.requires, subst (ScatteredBy (heard c.args.text.now)) (sym h) (ten_apart c.args.text.now c.args.line (c.requires ∙ ap (λ (k : ℕ). given_at k c.args.line) e)))
 
 pub returns-in-46 : goal.returns-in-46
 returns-in-46 c =
     let e : c.args.number ≡ 46 = omega arith in
-    detail_by _ _ e (c.told_before.ensures ∙ ap (told_before (heard c.args.text.now)) (nth_heard c.args.text.now c.args.line c.saturating_sub.ensures c.line-told.ensures c.hear.ensures))
+    detail_by _ _ e (c.told_before.ensures ∙ ap (told_before (heard c.args.text.now)) (nth_heard c.args.text.now c.args.line c.saturating_sub-in-46.ensures c.line-in-46.ensures c.hear.ensures))
 
 pub returns-in-50 : goal.returns-in-50
 returns-in-50 c =
     let e : c.args.number ≡ 50 = omega arith in
-    detail_by _ _ e (c.lies_apart.ensures ∙ ap (lies_apart (text (heard c.args.text.now))) (nth_heard c.args.text.now c.args.line c.saturating_sub.ensures c.line-told.ensures c.hear-in-50.ensures))
+    detail_by _ _ e (c.lies_apart.ensures ∙ ap (lies_apart (text (heard c.args.text.now))) (nth_heard c.args.text.now c.args.line c.saturating_sub-in-50.ensures c.line-in-50.ensures c.hear-in-50.ensures))
