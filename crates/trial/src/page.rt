@@ -2,8 +2,9 @@
 ghost use Rattle.std.specs.Prelude.{◌≤◌};
 
 use exact::Fraction;
+use std::array;
 
-#[derive(Drop)]
+#[derive(Clone, Copy)]
 pub struct Page {
     bytes: [u8; 8192],
     len: usize,
@@ -23,19 +24,23 @@ impl Page {
         streams::print(&self.bytes[..self.len]);
     }
 
-    fn put_byte(&mut self, b: u8) {
-        if self.len == self.bytes.len() {
-            self.print();
-            self.len = 0;
+    // The place reached is a local of the loop, so that it stays in a register: of a field each byte would wait for the store of the one before it.
+    pub fn put_bytes(&mut self, s: &[u8]) {
+        let mut at = self.len;
+        for b in s {
+            if at == self.bytes.len() {
+                self.len = at;
+                self.print();
+                at = 0;
+            }
+            self.bytes[at] = *b;
+            at += 1;
         }
-        self.bytes[self.len] = b;
-        self.len += 1;
+        self.len = at;
     }
 
-    pub fn put_bytes(&mut self, s: &[u8]) {
-        for b in s {
-            self.put_byte(*b);
-        }
+    fn put_byte(&mut self, b: u8) {
+        self.put_bytes(&[b]);
     }
 
     pub fn put_count(&mut self, n: u64) {
@@ -84,11 +89,17 @@ impl Page {
 
     // The bytes, two digits each, as a line.
     pub fn put_hex(&mut self, s: &[u8]) {
-        for b in s {
-            let mut text = [0; 16];
-            let k = io::hex(*b as u64, 2, &mut text);
-            self.put_bytes(&text[..k]);
+        for part in s.chunks(32) {
+            let text: [u8; 64] = array::from_fn(|i| digit_at(part, i));
+            self.put_bytes(&text[..(2 * part.len()).min(64)]);
         }
         self.put_line_end();
     }
+}
+
+// Digit i of bytes of which each has two, and a zero behind them.
+fn digit_at(s: &[u8], i: usize) -> u8 {
+    let b = s.get(i / 2).copied().unwrap_or(0);
+    let n = if i % 2 == 0 { b / 16 } else { b % 16 };
+    if n < 10 { b'0' + n } else { b'a' + (n - 10) }
 }
