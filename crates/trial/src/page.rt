@@ -2,7 +2,6 @@
 ghost use Rattle.std.specs.Prelude.{◌≤◌};
 
 use exact::Fraction;
-use std::array;
 
 #[derive(Clone, Copy)]
 pub struct Page {
@@ -24,17 +23,25 @@ impl Page {
         streams::print(&self.bytes[..self.len]);
     }
 
-    // The place reached is a local of the loop, so that it stays in a register: of a field each byte would wait for the store of the one before it.
+    // A byte at the place reached, and the next place. The loops keep the place in a local, so that it stays in a register: of a field each byte would wait for the store of the one before it.
+    fn put_at(&mut self, at: usize, b: u8) -> usize
+        requires { at ≤ 8192 }
+        ensures { result ≤ 8192 }
+    {
+        let mut here = at;
+        if here == self.bytes.len() {
+            self.len = here;
+            self.print();
+            here = 0;
+        }
+        self.bytes[here] = b;
+        here + 1
+    }
+
     pub fn put_bytes(&mut self, s: &[u8]) {
         let mut at = self.len;
         for b in s {
-            if at == self.bytes.len() {
-                self.len = at;
-                self.print();
-                at = 0;
-            }
-            self.bytes[at] = *b;
-            at += 1;
+            at = self.put_at(at, *b);
         }
         self.len = at;
     }
@@ -89,17 +96,18 @@ impl Page {
 
     // The bytes, two digits each, as a line.
     pub fn put_hex(&mut self, s: &[u8]) {
-        for part in s.chunks(32) {
-            let text: [u8; 64] = array::from_fn(|i| digit_at(part, i));
-            self.put_bytes(&text[..(2 * part.len()).min(64)]);
+        let mut at = self.len;
+        for b in s {
+            at = self.put_at(at, glyph(*b / 16));
+            at = self.put_at(at, glyph(*b));
         }
+        self.len = at;
         self.put_line_end();
     }
 }
 
-// Digit i of bytes of which each has two, and a zero behind them.
-fn digit_at(s: &[u8], i: usize) -> u8 {
-    let b = s.get(i / 2).copied().unwrap_or(0);
-    let n = if i % 2 == 0 { b / 16 } else { b % 16 };
-    if n < 10 { b'0' + n } else { b'a' + (n - 10) }
+// The low four bits of a byte as a digit.
+fn glyph(b: u8) -> u8 {
+    let glyphs = *b"0123456789abcdef";
+    glyphs[(b % 16) as usize]
 }
