@@ -106,7 +106,7 @@ impl Page {
     }
 }
 
-// The low four bits of a byte as a digit.
+// The low four bits of a byte as a digit: `io::hex` fills sixteen bytes to give two.
 fn glyph(b: u8) -> u8 {
     let glyphs = *b"0123456789abcdef";
     glyphs[(b % 16) as usize]
